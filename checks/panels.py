@@ -83,7 +83,8 @@ def focused(bench):
 
 
 def open_by(bench, key, what):
-    """Opens a panel by its key, from the picture."""
+    """Opens a panel by its key, from the picture, where none is open."""
+    bench.ask("closeExtra(); state.predicted && togglePredict()")
     to_view(bench)
     keys(bench, key)
     return wait_for(bench, what, 30)
@@ -274,24 +275,22 @@ def try_sweep(bench):
 
 
 def sayings_of(drawn, cycle):
-    """Returns what is in each stage in a cycle of a drawing, as the page's choices say it: a second reading."""
+    """Returns what is in each stage in a cycle of a drawing, as the page's choices say it, and whether the cycle stalls: a second reading."""
     def row_in(at, stage):
         for address, begins, cells in drawn["rows"]:
             sign = cells[at - begins:at - begins + 1] if begins <= at else ""
-            if sign.strip() and ("w01234abcdeABCDE".index(sign) - 1) % 5 == (stage if sign != "w" else 4 if stage == 0 else 9):
+            if sign.strip() and (0 if sign == "w" else "01234abcdeABCDE".index(sign) % 5) == stage:
                 return address, sign
         return None
 
     moved = cycle
-    while moved >= 0 and isinstance(drawn["cycles"][moved], int) or moved == 0 and drawn["cycles"][0][0] & 1:
+    while moved >= 0 and (drawn["cycles"][moved] if isinstance(drawn["cycles"][moved], int) else drawn["cycles"][moved][0]) & 1:
         moved -= 1
     found = []
     for stage in range(5):
-        now = row_in(cycle, stage) or moved < cycle and moved >= 0 and row_in(moved, stage) or None
-        if now is None or moved < cycle and row_in(cycle, stage) is None and now[1] in "ABCDE":
-            found.append("empty")
-        else:
-            found.append(f"{now[0]}" + (" squashed" if now[1] in "abcde" else " killed" if now[1] in "ABCDE" else ""))
+        row, held = row_in(cycle, stage), row_in(moved, stage) if 0 <= moved < cycle else None
+        row = row or held and held[1] not in "ABCDE" and held or None
+        found.append("empty" if row is None else str(row[0]) + (" squashed" if row[1] in "abcde" else " killed" if row[1] in "ABCDE" else ""))
     return found, moved < cycle
 
 
@@ -307,44 +306,52 @@ def say(bench, said, stalls):
 MARKS = "[...document.querySelectorAll('#predictions tr')].slice(1).map(row => row.className)"
 
 
-def try_predict(bench):
-    """The next cycle is hidden until it was predicted; what was right is what `draw` has, through stalls, squashes and an interrupt."""
-    type_source(bench, BRANCHES)
-    put(bench, "interrupts", "24")
-    settled(bench)
-    with tempfile.NamedTemporaryFile("w", suffix=".requests") as it:
-        it.write("24\n")
-        it.flush()
-        drawn = json.loads(lab(BRANCHES, "draw", "--cycles", "200", "--interrupts", it.name, "--as", "json"))
-    first, last = 13, 42
-    go(bench, first)
-    tell("the key q begins", open_by(bench, "q", "state.predicted !== null") and focused(bench) == "moves", focused(bench))
-    right = asked = 0
-    kinds, wrong = set(), []
+def predict_from(bench, drawn, first, last):
+    """Predicts the cycles behind one of a run up to another, some of them wrongly; returns how many answers were right, the cycles that
+    were not shown or marked as they are, and what was among them: stalls (s), squashed words (q), killed ones (k)."""
+    right, wrong, kinds = 0, [], set()
     for cycle in range(first, last):
         hidden = bench.ask(f"[...document.querySelectorAll('#rows .cell')].filter(it => Math.round((parseFloat(it.style.left) - 1 - labelWidth) / COLUMN) > {cycle} - state.range.from).length")
         truth, stalls = sayings_of(drawn, cycle + 1)
-        said = truth if cycle % 5 else ["empty" if truth[0] != "empty" else "0", *truth[1:]]
+        said = truth if cycle % 5 else ["empty", *truth[1:]]
         lacking = say(bench, said, stalls if cycle % 7 else not stalls)
         marks, shown = bench.ask(MARKS), bench.cycle()
         wanted = ["right" if one == other else "wrong" for one, other in zip(said, truth)]
         right += wanted.count("right") + (cycle % 7 > 0)
-        asked += 6
-        kinds.add((stalls, any("squashed" in it for it in truth), any("killed" in it for it in truth)))
+        kinds |= {"s"} if stalls else set()
+        kinds |= {it[0] for it in ("q", "k") for held in truth if {"q": "squashed", "k": "killed"}[it] in held}
         if hidden or lacking or marks != wanted or shown != cycle + 1:
             wrong.append((cycle, hidden, lacking, marks, wanted, shown))
-    tell("each cycle is hidden, then shown, with right and wrong as draw has it", not wrong, wrong[:2])
-    tell("there were stalls, squashed words and killed ones", {it for kind in kinds for it, on in zip("sqk", kind) if on} == set("sqk"), kinds)
-    told = bench.ask("document.getElementById('scored').textContent")
-    tell("what was right is counted", told.endswith(f"{right} of {asked} in {last - first} cycles."), (told, right, asked))
-    to_view(bench)
-    keys(bench, "End")
-    told = bench.ask("document.getElementById('scored').textContent")
-    tell("no key goes further", bench.cycle() == last and f"cycle {last + 1} and those after it are hidden" in told, (bench.cycle(), told))
-    keys(bench, "ArrowLeft")
-    tell("one goes back, and predicts only at the front", bench.cycle() == last - 1 and bench.ask("document.getElementById('reveal').disabled"))
-    keys(bench, "q")
-    tell("the key q ends it", bench.ask("state.predicted") is None and not bench.ask("document.getElementById('staged').hidden"))
+    return right, wrong, kinds
+
+
+def try_predict(bench):
+    """The next cycle is hidden until it was predicted; what was right is what `draw` has, through stalls, squashes and an interrupt."""
+    source, seen = read(f"{TOP}/examples/countdown.s"), set()
+    for request, first, last in ((19, 15, 25), (None, 14, 27)):
+        type_source(bench, source)
+        put(bench, "interrupts", request or "")
+        settled(bench)
+        with tempfile.NamedTemporaryFile("w", suffix=".requests") as it:
+            it.write(f"{request}\n" if request else "")
+            it.flush()
+            drawn = json.loads(lab(source, "draw", "--cycles", "200", "--interrupts", it.name, "--as", "json"))
+        go(bench, first)
+        tell("the key q begins", open_by(bench, "q", "state.predicted !== null") and focused(bench) == "moves", focused(bench))
+        right, wrong, kinds = predict_from(bench, drawn, first, last)
+        seen |= kinds
+        tell("each cycle is hidden, then shown, with right and wrong as draw has it", not wrong, wrong[:2])
+        told = bench.ask("document.getElementById('scored').textContent")
+        tell("what was right is counted", told.endswith(f"{right} of {6 * (last - first)} in {last - first} cycles."), (told, right))
+        to_view(bench)
+        keys(bench, "End")
+        told = bench.ask("document.getElementById('scored').textContent")
+        tell("no key goes further", bench.cycle() == last and f"cycle {last + 1} and those after it are hidden" in told, (bench.cycle(), told))
+        keys(bench, "ArrowLeft")
+        tell("one goes back, and predicts only at the front", bench.cycle() == last - 1 and bench.ask("document.getElementById('reveal').disabled"))
+        keys(bench, "q")
+        tell("the key q ends it", bench.ask("state.predicted") is None and not bench.ask("document.getElementById('staged').hidden"))
+    tell("there were stalls, squashed words and killed ones", seen == set("sqk"), seen)
     put(bench, "interrupts", "")
     settled(bench)
 
