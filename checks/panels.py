@@ -60,7 +60,7 @@ def lab(source, command, *words, plans=None):
 def cycles_of(source, plans):
     """Returns the cycles of a run by a plan file, and the lines of rejected plans."""
     text = lab(source, "plans", "PLANS", plans=plans)
-    return int(re.search(r"(?m)^cycles (\d+)$", text)[1]), re.findall(r"(?m)^plan \d+ \(line \d+\) rejected by .*$", text)
+    return int(re.search(r"(?m)^cycles (\d+)$", text)[1]), re.findall(r"(?m)^(?:copies of )?plan \d+ \(line \d+\) rejected by .*$", text)
 
 
 def keys(bench, *names):
@@ -99,7 +99,7 @@ def plans_shown(bench, source):
     told = bench.ask(TOLD)
     away = abs(cycles - before)
     less = f", {away} cycle{'s' * (away != 1)} {'fewer' if cycles < before else 'more'}" if away else ", as many"
-    wanted = "".join(f"P{it[1:]}; its block is padded. " for it in rejected) + f"With these plans: {cycles} cycles. With the list scheduler's: {before} cycles{less}."
+    wanted = "".join(f"{it[0].upper()}{it[1:]}; its block {'copies nothing' if it[0] == 'c' else 'is padded'}. " for it in rejected) + f"With these plans: {cycles} cycles. With the list scheduler's: {before} cycles{less}."
     tell(f"the panel says what plans prints of '{bench.ask(ITEMS)}'", told == wanted, (told, wanted))
     return cycles
 
@@ -168,6 +168,22 @@ def try_kept_plans(bench):
     tell("with a fault the panel is grey and names its line", told[0] and re.search(r"\b5\b", told[1]), told)
     type_source(bench, LOADS)
     tell("mended, it is not", settled(bench) and not bench.ask("document.getElementById('planned').classList.contains('old')"))
+
+
+def try_copies(bench):
+    """Where the program takes plan files that choose copies, the panel offers them, and says what `plans` prints of them."""
+    type_source(bench, LOADS)
+    settled(bench)
+    open_by(bench, "e", "planning.copying !== null && planning.source === sourceNow()")
+    known = "rejected" in lab(LOADS, "plans", "PLANS", plans="+0\n") or "halted" in lab(LOADS, "plans", "PLANS", plans="+0\n")
+    tell("copies are offered where the program takes them", bench.ask("[planning.copying, !document.getElementById('plan-copying').hidden]") == [known, known])
+    for copies in ("+0", "+2") if known else ():
+        bench.ask("choosePlan(1)")
+        bench.ask(f"(it => {{ it.value = '{copies}'; it.dispatchEvent(new Event('change')); }})(document.getElementById('plan-copies'))")
+        tell(f"the line of the block is {copies}", bench.ask("planText()") == f"\n{copies}\n", bench.ask("planText()"))
+        plans_shown(bench, LOADS)
+    bench.ask("document.getElementById('plan-all').click()")
+    settled(bench)
 
 
 # Milliseconds from a key in the panel to the cycles of the changed plan, by the page's clock.
@@ -387,7 +403,7 @@ def try_panels_look(url, folder):
                 tell("the page has no fault", not bench.faults, bench.faults)
 
 
-PARTS = (try_plan, try_kept_plans, try_plan_speed, try_caches, try_sweep, try_predict)
+PARTS = (try_plan, try_kept_plans, try_copies, try_plan_speed, try_caches, try_sweep, try_predict)
 PARTS_ALONE = (try_panels_look,)
 
 

@@ -83,7 +83,7 @@ PAGE_FAULTS = (
 PLANTED_PAGE = "\n".join(f"plant tools/serve/page.html {shlex.quote(it)}" for _, it, _ in PAGE_FAULTS)
 # The same for panels.py.
 PANEL_FAULTS = (
-    ("try_plan", "s/rejected by ${it.why}; its block is padded/is another one/", "the panel says what plans prints of '/ 0 1 -'"),
+    ("try_plan", "s/rejected by ${why}; its block/is another one, its block/", "the panel says what plans prints of '/ 0 1 -'"),
     ("try_plan", "s/const body = runSettings(), behind = /const body = settings(), behind = /", "the listing is the plan's"),
     ("try_plan", "s/'slot ' + (k - last)/'slot ' + (k - last + 1)/", "it says which slots these are"),
     ("try_kept_plans", "s/if (textsOf(before\\[k\\]) !== textsOf(planning.blocks\\[k\\]))/if (false)/", "after a change of its own it is the list scheduler's"),
