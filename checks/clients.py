@@ -291,7 +291,7 @@ def try_schema(client):
     with open(f"{TOP}/docs/serve.schema.json", encoding="utf-8") as it:
         told = json.load(it)["$defs"]
     values = values_of(told["fields"])
-    commands = ("check", "run", "explain", "draw", "profile", "compare", "disassemble")
+    commands = ("check", "run", "explain", "draw", "profile", "compare", "disassemble", "blocks", "plans", "caches", "interrupts")
     wrong = [it for command in commands for it in wrong_answers(client, command, told[command]["properties"], values)]
     tell("each command has the fields of the schema, with their ranges", not wrong, wrong[:10])
     tell("each answer is one that it has", all(set(it) <= set(told["answer"]["properties"]) for it in ANSWERS), ANSWERS)
