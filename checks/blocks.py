@@ -3,6 +3,8 @@
 
 usage: checks/blocks.py
 
+How often each block ran is what `profile` has of the line of its first statement, in runs of at most 300 cycles.
+
 The second reading is that of plans.py, written from docs/REORGANIZER.md; the lower bound is computed here, from docs/PLANS.md. Of each
 block the JSON text has to have its instructions, names, heights, dependences, end, successors, labels and lengths. No plan may be
 shorter than the bound: neither one of the schedulers, nor a shortest one of a block of up to eight instructions, which plans.py
@@ -24,6 +26,7 @@ PLANS = {"__name__": "plans"}
 exec(TEXT[: TEXT.index("if sys.argv[1:]==")], PLANS)
 BLOCKS = 1_000 if IS_SAMPLE else 10_000
 FALLS, HALT, SLOTS = 0, 1, 3
+RUN = ("--budget", "300", "--as", "json")
 SPELLED = {"nop": "add r0,r0,r0"}
 
 
@@ -118,34 +121,40 @@ def drawn(rnd):
 
 
 def printed(lab, text):
-    """What the program prints of a source, without its lines; nothing where it prints no JSON text."""
+    """What the program prints of a source, without its lines and runs; nothing where it prints no JSON text. The runs come beside it,
+    and what they have to be."""
     with tempfile.NamedTemporaryFile("w", suffix=".s") as file:
         file.write(text)
         file.flush()
-        said = subprocess.run([lab, "blocks", file.name, "--as", "json"], capture_output=True)
+        said, costs = (subprocess.run([lab, command, file.name, *RUN], capture_output=True) for command in ("blocks", "profile"))
     try:
-        found = json.loads(said.stdout)["blocks"]
+        found, counts = json.loads(said.stdout)["blocks"], {row["line"]: row["count"] for row in json.loads(costs.stdout)["rows"]}
+        ran = [(it.pop("ran"), counts[it["instructions"][0]["line"]]) for it in found]
         for row in (row for it in found for row in it["instructions"]):
             del row["line"]
-        return found
+        return found, ran
     except (ValueError, KeyError, TypeError):
-        return [{"output": (said.stdout + said.stderr)[:200].decode("utf-8", "replace")}]
+        return [{"output": (said.stdout + said.stderr)[:200].decode("utf-8", "replace")}], []
 
 
 def main():
     lab, rnd, above, long, large = program("mx_lab"), random.Random(57), collections.Counter(), 0, collections.Counter()
-    count = seed = 0
+    count = seed = times = 0
     while count < BLOCKS:
         seed += 1
         text, insts, labels, has_input = drawn(rnd)
-        wanted, found = list(model(insts, labels, has_input)), printed(lab, text)
+        wanted, (found, ran) = list(model(insts, labels, has_input)), printed(lab, text)
         if not tell(f"source {seed}", wanted == found, next(((a, b) for a, b in zip(wanted, found) if a != b), (len(wanted), len(found))), len(wanted)):
             break
+        if not tell(f"how often the blocks of source {seed} ran", all(seen == told for seen, told in ran), ran, 0):
+            break
+        times += sum(seen for seen, _ in ran)
         for it in found:
             shortest, size = it["words"]["best"], len(it["instructions"])
             long += any(words < it["bound"] for words in it["words"].values())
             (above if size <= 8 else large)[shortest - it["bound"]] += 1
         count += len(found)
+    print(f"{count:,} blocks ran {times:,} times")
     tell("no plan is shorter than its bound", not long, f"{long} are", 0)
     for name, by in (("up to 8 instructions, a shortest plan", above), ("more, the greedy plan", large)):
         print(f"of {by.total():,} blocks of {name} is longer than the bound by " + ", ".join(f"{d} in {by[d]:,}" for d in sorted(by)))

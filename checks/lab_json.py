@@ -243,7 +243,7 @@ def check_several(sources, schema):
         halted += runs
         if not runs:
             for plans in it["schedulers"]:
-                plans.update(cycles=0, misses=0, squashes=0)
+                plans.update(cycles=0, fetches=0, misses=0, squashes=0)
         sums = [added(*pair) for pair in zip(sums, it["schedulers"])] if sums else it["schedulers"]
     need(told["sums"] == {"sources": len(sources), "halted": halted, "schedulers": sums}, "the sums of the sources")
     rows = printed("compare", *sources, "--as", "csv").splitlines()
@@ -286,11 +286,19 @@ def check_own(source, compared, schema, folder):
     rejections = [line for line in report if " rejected by " in line]
     counts = dict(line.split(" ", 1) for line in report if line.count(" ") == 1)
     need(spoiled["rejected"] == len(rejections), "how many plans are rejected")
-    need(all(int(counts[it]) == spoiled[it] for it in ("words", "noops", "cycles", "misses", "squashes")), "the figures of the run by plans")
+    need(all(int(counts[it]) == spoiled[it] for it in ("words", "noops", "cycles", "fetches", "misses", "squashes")), "the figures of the run by plans")
     text = printed("compare", source, *own).splitlines()
     need([line for line in text if " rejected by " in line] == [f"spoiled: {line}" for line in rejections], "the rejected plans of a file")
     profile = json.loads(printed("profile", source, "--plans", f"{folder}/spoiled", "--as", "json"))
     need(profile["counts"]["cycles"] == spoiled["cycles"], "the profile of plans from a file")
+
+
+def check_ran(source, told, words=()):
+    """Holds how often blocks ran against how often `profile` has the lines of their first statements executed."""
+    profile = json.loads(printed("profile", source, *words, "--as", "json"))
+    counts = {row["line"]: row["count"] for row in profile["rows"]}
+    need(told["halted"] == profile["halted"], f"whether the run of the blocks of {source} halted")
+    need([it["ran"] for it in told["blocks"]] == [counts[it["instructions"][0]["line"]] for it in told["blocks"]], f"how often the blocks of {source} ran")
 
 
 def check(source, schema, folder):
@@ -308,6 +316,7 @@ def check(source, schema, folder):
     check_words(found["disassemble"], data_labels(source))
     check_caches(found["caches"])
     check_own(source, found["compare"], schema, folder)
+    check_ran(source, found["blocks"])
     for words in (["--step", str(1 + found["caches"]["cycles"] // 2000)], ["--pairs", "--step", str(1 + found["caches"]["cycles"] // 20)]):
         told = json.loads(printed("interrupts", source, *words, "--as", "json"))
         schema.validate(told)
@@ -318,6 +327,7 @@ def check(source, schema, folder):
     with open(requests, "w", encoding="ascii") as file:
         file.writelines(f"{cycle}\n" for cycle in range(5, 3 * turns, 41))
     check_profile(json.loads(printed("profile", source, "--interrupts", requests, "--as", "json")))
+    check_ran(source, json.loads(printed("blocks", source, "--interrupts", requests, "--as", "json")), ["--interrupts", requests])
     _, interrupts = check_trace(source, ["--interrupts", requests], schema)
     if shutil.which("callgrind_annotate"):
         check_callgrind(source, folder)

@@ -77,11 +77,11 @@ expect 'a shortest plan of two loads' 0 two_loads.s '1 0 3 2\n'
 } >wanted
 expect 'a load directly before a reader' 0 two_loads.s '0 1 2 3\n'
 
-echo "file:2: error[BadWord]: expected a number from 0 to 63, '-' or '/'" >wanted
+echo "file:2: error[BadWord]: expected a number from 0 to 63, '-', '/', '+0', '+1' or '+2'" >wanted
 expect 'a word that is none' 8 countdown.s '0 1\n0 x / - -\n'
 expect 'the number 64' 8 countdown.s '0 1\n0 64 / - -\n'
-echo 'file:1: error[TooLong]: a plan has at most 131 words' >wanted
-expect '132 words' 8 countdown.s "$(printf -- '- %.0s' {1..132})\n"
+echo 'file:1: error[TooLong]: a plan has at most 131 items' >wanted
+expect '132 items' 8 countdown.s "$(printf -- '- %.0s' {1..132})\n"
 echo "file:2: error[TwoPlaces]: a plan has one '/'" >wanted
 expect 'two places of a branch' 8 countdown.s '0 1\n0 / 1 / - -\n'
 echo 'file:4: error[NoBlock]: the source has no block for this plan' >wanted

@@ -163,6 +163,8 @@ CASES = (
         plant tools/grade.py 's/if not 0 <= found <= most/if False/'; checks/mutated.py""", ("FAILED: 600 mutated exercises",)),
     Case("mutated files", "mutated.py", "a second reading without the rule LastLoad", """
         plant examples/check_certificate.py 's/lambda: items\\[-1\\] is None.*/lambda: True),/'; checks/mutated.py""", ("FAILED: 500 mutated plan files",)),
+    Case("blocks", "blocks.py", "a block that ran twice in place of once", """
+        fake "$MX_LAB" 's/"ran": 1$/"ran": 2/'; MX_SAMPLE=1 MX_LAB=$fake checks/blocks.py""", ("FAILED: how often the blocks of source",)),
     Case("certificates", "certificates.py", "a checker without the rule Delay", """
         plant examples/check_certificate.py 's/lambda: not any(feeds.*/lambda: True),/'; checks/certificates.py""",
          ("FAILED: a load directly before its reader",)),

@@ -195,6 +195,21 @@ def real(tally):
     tally.need({row["miss_rate"] for row in lab.caches(b"halt\n", budget=1)} == {None}, "which nothing has without a fetch")
     tally.need(raised(Refusal, lambda: lab.profile(b"foo"), ":1:1: error[F3]"), "a faulty source is refused with its line")
     tally.need(len(lab.trace(b"halt\n")) > 2 and lab.plans(b"halt\n", lambda block: None).run.halted, "its trace and plans")
+    plan_files(tally, lab)
+
+
+def plan_files(tally, lab):
+    """Compares plan files with the schedulers, by their bytes and by their path."""
+    source, path = read(f"{TOP}/examples/full_slots.s").encode("ascii"), f"{TOP}/examples/rejected.plans"
+    rows = {row["plans"]: row for row in lab.compare(source, plans={"mine": b"/ 1 0\n/\n", "-none": b"\n", "file": path})}
+    tally.need([*rows] == ["padded", "list", "copies", "best", "mine", "-none", "file"], "compare has a record for each plan file", [*rows])
+    tally.need(rows["mine"]["words"] + 1 == rows["copies"]["words"] == rows["-none"]["words"], "with the words of its plans", rows)
+    tally.need((rows["mine"]["rejected"], rows["file"]["rejected"]) == (0, 1), "and how many of them are rejected", rows["file"])
+    ran = [block.ran for block in lab.blocks(b"addi r0,#3,r1\nloop: addi r1,#-1,r1\nbne r1,r0,loop\nhalt\n")]
+    tally.need(ran == [1, 3, 1], "blocks say how often they ran", ran)
+    tally.need(raised(ValueError, lambda: lab.compare({"a": source}, plans={"mine": b""}), "one source"), "plan files are of one source")
+    tally.need(raised(Refusal, lambda: lab.compare(source, plans={"a/b": b""}), "a/b"), "a name that is none is refused")
+    tally.need(raised(FileNotFoundError, lambda: lab.compare(source, plans={"a": "missing"})), "so is a file that is missing")
 
 
 def main():

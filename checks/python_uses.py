@@ -42,7 +42,8 @@ def agrees(it, lab, name, source):
     need(told["counts"] == {it: disturbed.counts[it] for it in COUNT_NAMES}, f"{name}: the counts of profile are the run's")
     need(sum(row["cycles"] for row in rows) + told["waiting"] + told["spent"]["handler"] <= disturbed.cycles, f"{name}: cycles of lines")
     by_copies = [row for row in lab.compare(source) if row["plans"] == "copies"]
-    need([row["cycles"] for row in by_copies] == [run.cycles], f"{name}: compare has the run's cycles")
+    need([[row[it] for it in COUNT_NAMES[:4]] for row in by_copies] == [[run.counts[it] for it in COUNT_NAMES[:4]]],
+         f"{name}: compare has the run's cycles, fetches, misses and squashes")
     shipped = [(row["misses"], row["cycles"]) for row in lab.caches(source) if row["shipped"]]
     need(shipped == [(run.counts["misses"], run.cycles)], f"{name}: caches has the run's misses")
     swept = lab.interrupts(source, last=run.cycles - 1)
@@ -52,6 +53,9 @@ def agrees(it, lab, name, source):
     need(words == [(row["address"], row["word"]) for row in lab.disassemble(it.build(source))], f"{name}: its image has its words")
     blocks = lab.blocks(source)
     need(all(block.bound <= min(block.words.values()) for block in blocks), f"{name}: no plan is shorter than its bound")
+    counts = {row["line"]: row["count"] for row in rows}
+    need([block.ran for block in lab.blocks(source, interrupts=[3, 9])] == [counts[block.lines[0]] for block in blocks],
+         f"{name}: a block ran as often as the line of its first statement was executed")
     need(all(row["words"] == sum(block.words[row["plans"]] for block in blocks) for row in lab.compare(source)),
          f"{name}: blocks and compare have the same words")
     need(lab.explain(source)["verdict"] == it.explain(source).verdict, f"{name}: the verdict")

@@ -26,11 +26,11 @@ from zanderanvil import Case, Evaluation, evaluate, spread  # noqa: E402
 
 LEVEL = '2'
 PLANS = ['padded', 'list', 'copies', 'best']
-OF_PLAN = ['words', 'cycles', 'misses', 'squashes']
+OF_PLAN = ['words', 'cycles', 'fetches', 'misses', 'squashes']
 FIGURES = ['cycles', 'fetches', 'misses']
 TRANSFERS = {'beq', 'bne', 'blt', 'bge', 'blo', 'bhs', 'bgt', 'ble', 'bhi', 'blos', 'b', 'call', 'callr', 'jr'}
 FILLER = '-fdelayed-branch'
-SLOTS, STALLS = 2, 2            # after each transfer; stalled cycles of a miss
+SLOTS = 2                       # after each transfer
 MIPS_TRANSFERS = re.compile(r'^(b(?!reak)\w*|j|jr|jal|jalr)$')
 MIPS_LOADS = re.compile(r'^l(b|bu|h|hu|w|wl|wr)$')
 # What is counted of an example, as docs/study.csv names it.
@@ -233,13 +233,12 @@ def chart(rows):
 
 
 def evaluation(rows):
-    """The records of all schedulers, as `evaluate` gives them: fetches apart from misses."""
+    """The records of all schedulers, as `evaluate` gives them."""
     records = []
     for row in rows:
         for plan in PLANS:
             figures = {figure: row[f'{plan} {figure}'] for figure in OF_PLAN}
-            fetches = figures['cycles'] - STALLS * figures['misses']
-            records.append({'source': row['program'], 'scheduler': plan, 'halted': True, 'fetches': fetches, **figures})
+            records.append({'source': row['program'], 'scheduler': plan, 'halted': True, **figures})
     return Evaluation(records)
 
 
@@ -341,7 +340,7 @@ def page(rows):
 
     waits = dict(zip((row['program'] for row in rows), cut['cycles: misses']))
     least, most = min(waits, key=waits.get), max(waits, key=waits.get)
-    fetched = [(row['copies cycles'] - STALLS * row['copies misses']) / row['statements'] for row in rows]
+    fetched = [row['copies fetches'] / row['statements'] for row in rows]
     return TEXT.format(
         count=len(rows), differences='\n'.join(differences(found)), shares='\n'.join(share_lines(rows)),
         list=said(found.difference('list', 'padded'), 'saves', 'costs', '% of the cycles'),

@@ -21,7 +21,9 @@ PAGES = {"draw": "PICTURES", "profile": "MEASUREMENTS", "caches": "MEASUREMENTS"
 SHARED = {"limits_of": ("run", "exec"), "read_seeded": ("gen", "soak"), "session_limits_of": ("debug",)}
 # A command's names as help writes them, by what crates/lab_line calls them.
 NAMES = {"Source": "SOURCE", "Sources": "SOURCE ..", "File": "FILE", "Plans": "SOURCE FILE",
-         "Certified": "SOURCE IMAGE CERTIFICATE"}
+         "Certified": "SOURCE IMAGE CERTIFICATE", "Image": "SOURCE IMAGE", "Label": "SOURCE LABEL"}
+# The commands of mx_run that mx_lab answers where they have this option.
+PLANNED, PLANS = ("build", "debug"), "plans"
 
 
 def text_of(path):
@@ -131,12 +133,18 @@ def compare_help(rows, ranges, lab):
     """Compares tools/commands.py with both tables."""
     of = {program: [name for name, it in commands.COMMANDS.items() if it.program == program] for program in ("mx_run", "mx_lab")}
     tell("help has the commands of mx_run", sorted(of["mx_run"]) == sorted(rows), f"{of['mx_run']} and {sorted(rows)}")
-    tell("help has the commands of mx_lab", sorted(of["mx_lab"]) == sorted(lab), f"{of['mx_lab']} and {sorted(lab)}")
+    own = {name: it for name, it in lab.items() if name not in PLANNED}
+    tell("help has the commands of mx_lab", sorted(of["mx_lab"]) == sorted(own), f"{of['mx_lab']} and {sorted(own)}")
     for name, (fewest, most, options) in rows.items():
         names = commands.COMMANDS[name].names.split()
         tell(f"help of {name}: how many names", fewest == len([it for it in names if it != ".."]) and (".." in names) == (most > fewest), str(names))
-        compare_options(name, options)
-    for name, (names, _, options) in lab.items():
+        compare_options(name, with_plans(name, options))
+    for name in PLANNED:
+        tell(f"both programs have {name}", name in rows and name in lab)
+        names, _, options = lab[name]
+        tell(f"{name} --plans: its names", commands.COMMANDS[name].names == names, names)
+        compare_both(name, rows[name][2], options)
+    for name, (names, _, options) in own.items():
         tell(f"help of {name}: its names", commands.COMMANDS[name].names == names, names)
         compare_options(name, options)
     for name in ("gen", "soak"):
@@ -144,6 +152,20 @@ def compare_help(rows, ranges, lab):
             _, least, most = ranges[name, option]
             tell(f"help of {name}: {option}", f"{option.upper()} {'is ' if option == 'seed' else ''}{least} to {grouped(most)}" in commands.COMMANDS[name].more)
     tell("help of join: how many modules", f"{rows['join'][0]} to {rows['join'][1]} texts" in commands.COMMANDS["join"].text)
+
+
+def with_plans(name, options):
+    """Returns the options of a command of mx_run, and those of mx_lab where it answers it too."""
+    return {**options, **({PLANS: None} if name in PLANNED else {})}
+
+
+def compare_both(name, options, of_lab):
+    """Compares the options of a command in both programs: their names, and the default and the range of each."""
+    options = with_plans(name, options)
+    tell(f"{name} --plans: its options", sorted(options) == sorted(of_lab), f"{sorted(of_lab)} is not {sorted(options)}")
+    for option, value in options.items():
+        same = of_lab.get(option) == (tuple(value) if isinstance(value, list) else value)
+        tell(f"{name} --plans: --{option}", same, f"{of_lab.get(option)} is not {value}")
 
 
 def compare_options(name, options):
@@ -158,6 +180,8 @@ def compare_mx(rows, lab):
     listed = set(re.findall(r"^  ((?:\w+, )*\w+) ", text[text.index("cat <<'END'"):text.index("\nEND\n")], re.M))
     listed = {word for it in listed for word in it.split(", ")}
     cases = {word for it in re.findall(r"^    ((?:[a-z]+ \| )*[a-z]+)\)\n", text, re.M) for word in it.split(" | ")}
+    planned = re.search(r"^    ([a-z |]+)\)\n        if has_plans", text, re.M)
+    tell("./mx calls mx_lab for --plans", planned is not None and planned[1].split(" | ") == list(PLANNED), str(planned))
     for name in [*rows, *lab]:
         tell(f"./mx lists {name}", name in listed)
         tell(f"./mx calls {name}", name in cases)
@@ -207,7 +231,8 @@ def compare_documents(rows, ranges, lab):
     for command in rows:
         line = re.search(rf"^\| `{command}[ `].*$", text, re.M)
         said = set(re.findall(r"`--(\w+)", line[0])) if line else None
-        tell(f"COMMANDS.md: the options of {command}", line is not None and (said == set(rows[command][2]) or "the options of `run`" in line[0]), str(said))
+        known = set(with_plans(command, rows[command][2]))
+        tell(f"COMMANDS.md: the options of {command}", line is not None and (said == known or "the options of `run`" in line[0]), str(said))
     for command, page in PAGES.items():
         options = lab[command][2]
         found = [it for it in table_rows(page) if it[0] in options]

@@ -29,6 +29,8 @@ BUDGET = Option("--budget", "N", "0 to 100,000,000 cycles (1,000,000)")
 # The laboratory runs for a cycle at least.
 SCHEDULER = Option("--scheduler", "NAME", "padded, list, copies or best: whose plans run (copies)")
 PLANS = Option("--plans", "FILE", "a plan file, whose plans run in place of a scheduler's (none)")
+# With this option the laboratory answers a command of the toolchain.
+LINKED_PLANS = Option("--plans", "FILE", "a plan file, whose plans are linked in place of the list scheduler's (none)")
 LAB_BUDGET = Option("--budget", "N", "1 to 100,000,000 cycles (1,000,000)")
 INTERRUPTS = Option("--interrupts", "FILE", "the cycles of requests, one a line, each above the one before (none)")
 INPUT = Option("--input", "FILE", "the bytes that a source with .input reads (none)")
@@ -50,12 +52,12 @@ COMMANDS = {
         Option("--steps", "N", "0 to 100,000,064 statements (1,000,000)"), INPUT, OUTPUT),
         "Ends with 0 at a halt, 3 where it still runs, 9 where it is stuck."),
     "list": Command("mx_run", "SOURCE", "lists the linked words, and where each comes from", (OUTPUT,)),
-    "build": Command("mx_run", "SOURCE IMAGE", "writes the linked program as a file"),
+    "build": Command("mx_run", "SOURCE IMAGE", "writes the linked program as a file", (LINKED_PLANS,)),
     "exec": Command("mx_run", "IMAGE", "runs such a file", RUN),
     "debug": Command("mx_run", "SOURCE LABEL", "stops the pipeline each time that it comes to a label", (
         Option("--stops", "N", "1 to 1,000 stops (1)"),
         Option("--watch", "A", "256 to 65,535: the data word that each stop shows (256)"),
-        BUDGET, INTERRUPTS, INPUT, OUTPUT)),
+        LINKED_PLANS, BUDGET, INTERRUPTS, INPUT, OUTPUT)),
     "best": Command("mx_run", "SOURCE", "compares the scheduler with the shortest plans", (OUTPUT,)),
     "share": Command("mx_run", "FIRST SECOND", "runs two sources on one machine", (BUDGET, INTERRUPTS, OUTPUT)),
     "join": Command("mx_run", "FIRST SECOND ..", "joins 2 to 16 texts to one source", (OUTPUT,)),
@@ -85,7 +87,7 @@ COMMANDS = {
         Option("--plans", "NAME=FILE", "a plan file of the one source, with a column of its own; may come several times (none)"),
         LAB_BUDGET, INTERRUPTS, INPUT, OUTPUT)),
     "blocks": Command("mx_lab", "SOURCE", "shows blocks, their dependences and the lengths of their plans", (
-        Option("--as", "FORM", "text, json or dot (text)"), OUTPUT)),
+        Option("--as", "FORM", "text, json or dot (text)"), LAB_BUDGET, INTERRUPTS, INPUT, OUTPUT)),
     "disassemble": Command("mx_lab", "FILE", "lists the words of a source or an image in assembly language", (
         Option("--as", "FORM", "text or json (text)"), OUTPUT)),
     "caches": Command("mx_lab", "SOURCE", "measures a run with other caches", (

@@ -65,7 +65,7 @@ launch() {{
 laboratory() {{
     for word; do
         case $word in
-            -o* | --output | --output=*) launch "$here/libexec/zanderanvil/mx_lab" "$@"; exit ;;
+            build | -o* | --output | --output=*) launch "$here/libexec/zanderanvil/mx_lab" "$@"; exit ;;
         esac
     done
     exec "$here/libexec/zanderanvil/mx_lab" "$@"
@@ -108,6 +108,14 @@ toolchain_into() {{
     esac
     return "$status"
 }}
+# A command of the toolchain that names a plan file is the laboratory's.
+case ${{1-}} in
+    build | debug)
+        for word; do
+            case $word in --) break ;; --plans | --plans=*) laboratory "$@" ;; esac
+        done
+        ;;
+esac
 case ${{1-}},${{2-}},$# in
     {helps}) exec cat "$here/share/zanderanvil/help/$1" ;;
 esac

@@ -17,8 +17,6 @@ FIGURES = ("words", "noops", "cycles", "fetches", "misses", "squashes")
 STUDENT = (12.706, 4.303, 3.182, 2.776, 2.571, 2.447, 2.365, 2.306, 2.262, 2.228, 2.201, 2.179, 2.160, 2.145, 2.131, 2.120, 2.110, 2.101, 2.093,
            2.086, 2.080, 2.074, 2.069, 2.064, 2.060, 2.056, 2.052, 2.048, 2.045, 2.042)
 BEYOND = ((40, 2.021), (60, 2.000), (120, 1.980), (math.inf, 1.960))
-# A fetch takes a cycle, and one that misses so many more (docs/MACHINE.md).
-STALLS = 2
 # The picture: widths and heights in pixels.
 LEFT, WIDE, ROW_HIGH, EDGE = 220, 420, 26, 30
 
@@ -49,8 +47,6 @@ def _records_of(job: Tuple[str, Optional[float], Mapping[str, Named], str, Sourc
                 known = known or {row["plans"]: row for row in laboratory.compare(case.source, **_given(case))}
                 row = known[scheduler]
                 record.update({it: row[it] for it in FIGURES if it in row}, halted=row["halted"], rejected=0)
-                if row["halted"]:
-                    record["fetches"] = row["cycles"] - STALLS * row["misses"]
             else:
                 planned = laboratory.plans(case.source, scheduler, **_given(case))
                 record.update({it: planned.run.counts[it] for it in FIGURES}, halted=planned.run.halted, rejected=len(planned.rejected))

@@ -4,6 +4,7 @@ from __future__ import annotations
 import contextlib
 import json
 import os
+import pathlib
 import shutil
 import signal
 import subprocess
@@ -38,7 +39,8 @@ class Block:
     """A basic block of a source, as `blocks` shows it (docs/PLANS.md): its number from 1 on, the text of its instructions, whether the
     last one is a transfer or a halt; for each instruction its line, the names that it reads and writes, and its height; what depends on
     what; the labels, what ends it (`falls`, `halt`, `branch`, `call`, `jump`), the numbers of the blocks that may follow; the number of
-    words that every valid plan has, at least, and those that the schedulers of `compare` make of it, of which so many are copies."""
+    words that every valid plan has, at least, and those that the schedulers of `compare` make of it, of which so many are copies; and how
+    often it ran in the run of the source."""
 
     number: int
     instructions: Sequence[str]
@@ -54,17 +56,21 @@ class Block:
     bound: int = 0
     words: Mapping[str, int] = field(default_factory=dict)
     copied: int = 0
+    ran: int = 0
 
 
 # The items of a plan in their order: the number of an instruction of the block, None for a no-op, "/" for the transfer or halt.
+# "+0", "+1" or "+2" among them chooses how many words of the target the slots copy; without other items the list scheduler plans.
 Plan = Sequence[Union[int, str, None]]
 # A scheduler gives a plan for a block, or None, which leaves the block to the list scheduler.
 Scheduler = Callable[[Block], Optional[Plan]]
+# A plan file (docs/PLANS.md): its bytes, or its path.
+PlanFile = Union[bytes, str, "os.PathLike[str]"]
 
 
 @dataclass
 class Planned:
-    """A run by a scheduler's plans, and a line for each plan that was rejected."""
+    """A run by a scheduler's plans, and a line for each plan that was rejected, and for copies that were."""
 
     run: Run
     rejected: list[str]
@@ -129,6 +135,16 @@ def _rows(document: Record, name: str) -> List[Record]:
     return rows
 
 
+def _plan_files(plans: Mapping[str, PlanFile]) -> Tuple[List[str], Dict[str, bytes]]:
+    """The options of `compare` that name plan files, and these files."""
+    options: List[str] = []
+    files: Dict[str, bytes] = {}
+    for number, (name, file) in enumerate(plans.items(), 1):
+        options.append(f"--plans={name}=plans{number}")
+        files[f"plans{number}"] = file if isinstance(file, bytes) else pathlib.Path(file).read_bytes()
+    return options, files
+
+
 def _block(record: Record) -> Block:
     """A block by its record."""
     rows, dependences = _rows(record, "instructions"), _rows(record, "dependences")
@@ -148,6 +164,7 @@ def _block(record: Record) -> Block:
             bound=record["bound"],
             words=record["words"],
             copied=record["copied"],
+            ran=record["ran"],
         )
     except KeyError as missing:
         raise Refusal(DONE, f"the program printed a block without {missing}".encode()) from None
@@ -231,7 +248,10 @@ class Laboratory:
 
     def document(self, command: str, source: bytes, *options: str, **given: Any) -> Record:
         """The JSON document of a command on a source (docs/JSON.md)."""
-        words, files = self._lent(command, source, options, **given)
+        return self._document(*self._lent(command, source, options, **given))
+
+    def _document(self, words: Sequence[str], files: Mapping[str, bytes]) -> Record:
+        """The JSON document of a command, by its words and the files that they name."""
         output = self.printed(*words, "--as", "json", files=files)
         found = _records(output)
         if len(found) != 1:
@@ -256,12 +276,17 @@ class Laboratory:
         """A record for each `line`, `label`, `function`, or line of C (`c`), with what its cycles were spent on."""
         return _rows(self.document("profile", source, "--by", by, **given), "rows")
 
-    def compare(self, sources: Union[bytes, Mapping[str, bytes]], **given: Any) -> List[Record]:
-        """A record for each source, by its name where there are several, and each scheduler."""
+    def compare(self, sources: Union[bytes, Mapping[str, bytes]], plans: Optional[Mapping[str, PlanFile]] = None, **given: Any) -> List[Record]:
+        """A record for each source, by its name where there are several, and each scheduler; with one source also for each plan file,
+        by the name that it is given here."""
+        if plans and isinstance(sources, Mapping):
+            raise ValueError("plan files are those of one source: give its bytes alone")
         named = sources if isinstance(sources, Mapping) else {"": sources}
+        options, lent = _plan_files(plans or {})
         records: List[Record] = []
         for name, source in named.items():
-            for row in _rows(self.document("compare", source, **given), "schedulers"):
+            words, files = self._lent("compare", source, options, **given)
+            for row in _rows(self._document(words, {**files, **lent}), "schedulers"):
                 records.append({"source": name, **_flat(row)} if name else _flat(row))
         return records
 
@@ -299,15 +324,15 @@ class Laboratory:
         drawing.form("text")
         return drawing
 
-    def blocks(self, source: bytes) -> list[Block]:
-        """The blocks of a source, as a scheduler gets them."""
-        return [_block(it) for it in _rows(self.document("blocks", source), "blocks")]
+    def blocks(self, source: bytes, **given: Any) -> list[Block]:
+        """The blocks of a source, as a scheduler gets them, and how often each ran."""
+        return [_block(it) for it in _rows(self.document("blocks", source, **given), "blocks")]
 
     def plans(self, source: bytes, scheduler: Scheduler, **given: Any) -> Planned:
         """Runs a source by a scheduler's plans. A plan that is not valid is rejected, and its block is padded: so every run does
         what the source means, whatever the scheduler gives."""
         lines = []
-        for block in self.blocks(source):
+        for block in self.blocks(source, **given):
             plan = scheduler(block)
             lines.append("" if plan is None else " ".join("-" if item is None else str(item) for item in plan))
         words, files = self._lent("plans", source, (), **given)
@@ -315,7 +340,7 @@ class Laboratory:
         files["plans"] = "".join(f"{line}\n" for line in lines).encode("ascii", "replace")
         status, output, errors = self.answer(*words, files=files)
         rejected = []
-        while output.startswith(b"plan "):
+        while output.startswith((b"plan ", b"copies of plan ")):
             line, _, output = output.partition(b"\n")
             rejected.append(line.decode("ascii"))
         if status not in (DONE, OUT_OF_BUDGET):

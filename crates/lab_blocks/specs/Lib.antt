@@ -1,3 +1,4 @@
 pub mod Bounds
 pub mod Dependences
 pub mod Lengths
+pub mod Ran

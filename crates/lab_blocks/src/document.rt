@@ -94,16 +94,22 @@ fn write_block(document: &mut Document, number: u64, facts: &Facts) {
         ("best", u64::from(lengths.best)),
     ];
     document.push_object("words", &words);
-    document.push_numbers(&[("copied", facts.copied as u64)]);
+    document.push_numbers(&[("copied", facts.copied as u64), ("ran", facts.ran)]);
     document.end_object();
 }
 
-/// The blocks of a source as JSON, with the name of its file.
-pub fn blocks_json(alloc: Global, source: &str, blocks: &[Facts]) -> Result<Vec<u8>, Memory> {
+/// The blocks of a source as JSON, with the name of its file, and whether its run halted.
+pub fn blocks_json(
+    alloc: Global,
+    source: &str,
+    blocks: &[Facts],
+    halted: bool,
+) -> Result<Vec<u8>, Memory> {
     let mut document = Document::new(alloc);
     document.begin_object();
     document.push_member("command", Value::Text("blocks"));
     document.push_member("source", Value::Text(source));
+    document.push_member("halted", Value::Flag(halted));
     document.push_key("blocks");
     document.begin_list();
     let mut number = 0u64;

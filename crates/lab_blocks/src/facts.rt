@@ -46,6 +46,8 @@ pub struct Facts {
     pub lengths: Lengths,
     /// How many words of its target are copied into its slots.
     pub copied: usize,
+    /// How often it ran: how often its first statement was executed.
+    pub ran: u64,
 }
 
 impl Facts {
@@ -57,6 +59,9 @@ impl Facts {
         }
     }
 }
+
+/// What is printed where the run ended with its budget.
+pub(crate) const NOT_HALTED: &str = "the run has not halted within its budget";
 
 /// What ends a block, in a word.
 pub(crate) fn end_word(end: End) -> &'static str {

@@ -1,5 +1,6 @@
 //! The blocks of a source as a graph in the DOT language.
-use crate::facts::{Facts, Row};
+use crate::facts::{Facts, NOT_HALTED, Row};
+use crate::text::push_ran;
 use lab_writer::Writer;
 use std::alloc::{AllocError, Global};
 
@@ -47,7 +48,9 @@ fn push_block(text: &mut Writer, block: u64, facts: &Facts) {
         &["  subgraph cluster_", " {\n    label=\"block "],
         &[block, block],
     );
-    text.push_numbers(&[", line ", ": bound ", "\";\n"], &[u64::from(line), bound]);
+    text.push_numbers(&[", line ", ": bound "], &[u64::from(line), bound]);
+    push_ran(text, facts.ran);
+    text.push_str("\";\n");
     let mut k = 0u64;
     for row in facts.rows.iter() {
         push_row(text, block, k, row);
@@ -60,14 +63,17 @@ fn push_block(text: &mut Writer, block: u64, facts: &Facts) {
 }
 
 /// The blocks of a source as a graph in the DOT language: a box for each block with its dependences, and dashed edges where a block
-/// goes on.
-pub fn blocks_dot(alloc: Global, blocks: &[Facts]) -> Result<Vec<u8>, AllocError> {
+/// goes on. The graph has a label where the run has not halted.
+pub fn blocks_dot(alloc: Global, blocks: &[Facts], halted: bool) -> Result<Vec<u8>, AllocError> {
     let mut text = Writer::new(alloc);
     text.push_str("digraph blocks {\n  node [shape=box, fontname=monospace];\n");
     let mut number = 0u64;
     for facts in blocks {
         number = number.saturating_add(1);
         push_block(&mut text, number, facts);
+    }
+    if !halted {
+        text.push_parts(&["  label=\"", NOT_HALTED, "\";\n"]);
     }
     text.push_str("}\n");
     text.into_bytes()

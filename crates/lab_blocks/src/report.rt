@@ -1,4 +1,7 @@
 //! The blocks of a linked source.
+ghost use Rattle.std.specs.Prelude.{◌≡◌, IfOk, map, slice_index};
+ghost use Rattle.lab_blocks.specs.Ran.{RanAsCounted, runs_by};
+
 use crate::bound::lower_bound;
 use crate::edges::edges_of;
 use crate::facts::{Facts, Row, Successors};
@@ -203,13 +206,26 @@ fn rows_of(alloc: Global, program: &Program, block: &Block) -> Result<Vec<Row>, 
     Ok(rows)
 }
 
-// What is told of a block, behind so many labels.
+// How often a statement was executed, by the counts of all.
+fn count_at(counts: &[u64], statement: u32) -> u64
+    ensures { result ≡ slice_index counts.now statement }
+{
+    match counts.get(statement as usize) {
+        Some(count) => *count,
+        None => 0,
+    }
+}
+
+// What is told of a block, behind so many labels, where the statements were executed so often.
 fn facts_of(
     alloc: Global,
     program: &Program,
     block: &Block,
     told: usize,
-) -> Result<Facts, AllocError> {
+    counts: &[u64],
+) -> Result<Facts, AllocError>
+    ensures { IfOk result (λ facts. facts.ran ≡ slice_index counts.now block.now.first) }
+{
     let count = block.insts.len() as u32;
     let behind = block.first.saturating_add(count);
     Ok(Facts {
@@ -221,6 +237,7 @@ fn facts_of(
         bound: lower_bound(block),
         lengths: lengths_of(block),
         copied: program.copied(block.first, behind),
+        ran: count_at(counts, block.first),
     })
 }
 
@@ -230,25 +247,32 @@ fn all_facts(
     source: &Source,
     linked: &Linked,
     blocks: &[Block],
-) -> Result<Vec<Facts>, AllocError> {
+    counts: &[u64],
+) -> Result<Vec<Facts>, AllocError>
+    ensures { IfOk result (λ all. map (λ facts. facts.ran) all.items ≡ runs_by counts.now blocks.now) }
+{
     let program = Program::new(alloc, source, linked, blocks)?;
     let (mut all, mut told) = (Vec::new(alloc), 0usize);
     for block in blocks {
-        let facts = facts_of(alloc, &program, block, told)?;
+        let facts = facts_of(alloc, &program, block, told, counts)?;
         told = told.saturating_add(facts.labels.len());
         all.push(facts)?;
     }
     Ok(all)
 }
 
-/// What is told of each block of a source that is linked by the list scheduler, with copies.
+/// What is told of each block of a source that is linked by the list scheduler, with copies, where its statements were executed as
+/// often as the counts say. A block ran as often as its first statement was executed.
 pub fn source_blocks(
     alloc: Global,
     source: &Source,
     linked: &Linked,
-) -> Result<Vec<Facts>, Memory> {
+    counts: &[u64],
+) -> Result<Vec<Facts>, Memory>
+    ensures { IfOk result (λ all. RanAsCounted source.now counts.now all.items) }
+{
     let blocks = blocks(alloc, source)?;
-    match all_facts(alloc, source, linked, blocks.as_slice()) {
+    match all_facts(alloc, source, linked, blocks.as_slice(), counts) {
         Ok(all) => Ok(all),
         Err(_) => Err(Memory),
     }

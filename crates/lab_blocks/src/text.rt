@@ -1,5 +1,5 @@
 //! The blocks of a source as a text.
-use crate::facts::{Facts, Row, Successors};
+use crate::facts::{Facts, NOT_HALTED, Row, Successors};
 use crate::registers::{CALLED, has_name};
 use lab_writer::Writer;
 use mx_blocks::End;
@@ -64,11 +64,18 @@ fn push_lines(text: &mut Writer, first: u32, last: u32) {
     }
 }
 
+/// Appends how often a block ran.
+pub(crate) fn push_ran(text: &mut Writer, ran: u64) {
+    text.push_numbers(&[", ran "], &[ran]);
+    text.push_str(if ran == 1 { " time" } else { " times" });
+}
+
 // Appends the first line of a block.
 fn push_head(text: &mut Writer, number: usize, facts: &Facts) {
     let (first, last) = facts.lines();
     text.push_numbers(&["block "], &[number as u64]);
     push_lines(text, first, last);
+    push_ran(text, facts.ran);
     let mut parting = ": ";
     for label in facts.labels.iter() {
         text.push_parts(&[parting, label.as_str()]);
@@ -120,8 +127,13 @@ fn push_block(text: &mut Writer, number: usize, facts: &Facts) {
     push_lengths(text, facts);
 }
 
-/// The blocks of a source as a text, with a line for each instruction.
-pub fn blocks_text(alloc: Global, blocks: &[Facts]) -> Result<Vec<u8>, AllocError> {
+// Appends that the run has not halted.
+fn push_unhalted(text: &mut Writer) {
+    text.push_parts(&["\n", NOT_HALTED, "\n"]);
+}
+
+/// The blocks of a source as a text, with a line for each instruction; a line behind them tells of a run that has not halted.
+pub fn blocks_text(alloc: Global, blocks: &[Facts], halted: bool) -> Result<Vec<u8>, AllocError> {
     let mut text = Writer::new(alloc);
     let mut number = 0usize;
     for facts in blocks {
@@ -130,6 +142,9 @@ pub fn blocks_text(alloc: Global, blocks: &[Facts]) -> Result<Vec<u8>, AllocErro
         }
         number = number.saturating_add(1);
         push_block(&mut text, number, facts);
+    }
+    if !halted {
+        push_unhalted(&mut text);
     }
     text.into_bytes()
 }

@@ -1,6 +1,5 @@
 pub mod Items
 pub mod Same
-pub mod Asked
 pub mod Both
 pub mod Sites
 pub mod Ready

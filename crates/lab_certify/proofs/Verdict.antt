@@ -23,7 +23,8 @@ use Rattle.lab_certify.specs.declared.rejection.Rejection.TheVariants.{Source, B
 use Rattle.lab_certify.specs.Texts.{Claims}
 use Rattle.lab_certify.specs.Verified.{AtBoth, IsFirstOther, IsFor, IsPlaced, IsAddressed, IsLinkable, IsRejection, MayCarry}
 use Rattle.lab_certify.specs.Checks.{IsOfAnother, IsOfThis, IsPlanned, IsSited, Begins, Passes, Fails, IsBrokenBy, IsElsewhere, IsForbidden, IsFirst, IsGiven, IsExpected, IsOtherImage}
-use Rattle.lab_certify.proofs.Sites.{start_at, site_at, site_count, kept_count, kept_at, kept_plans}
+use Rattle.mx_plans.proofs.Sites.{site_at, site_count}
+use Rattle.lab_certify.proofs.Sites.{start_at, kept_count, kept_at, kept_plans}
 
 module _ (text digits : List ℕ) (source : SourceValue) (l : Layout) (c : Claims) (g : IsGiven text digits source l c) where
   open g use {digits_are, laid, kept}

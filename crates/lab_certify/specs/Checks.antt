@@ -1,5 +1,5 @@
 -- What the checks of a certificate find.
-use Rattle.std.specs.Prelude.{◌≡◌, ◌≢◌, ◌<◌, ◌^◌, ◌⊎◌, ℕ, List, length, Some, None, slice_get}
+use Rattle.std.specs.Prelude.{◌≡◌, ◌≢◌, ◌⊎◌, ℕ, List, length, Some, None, slice_get}
 use Rattle.mx_isa.specs.Board.{board}
 use Rattle.mx_source.specs.SourceValue.{SourceValue}
 use Rattle.mx_code.specs.declared.Image.{Image}
@@ -7,7 +7,6 @@ use Rattle.mx_blocks.specs.declared.Block.{Block}
 use Rattle.mx_blocks.specs.declared.Plan.{Plan}
 use Rattle.mx_validate.specs.Validity.{Valid}
 use Rattle.mx_squash.specs.Copies.{Site}
-use Rattle.mx_squash.specs.Ordered.{AreOfOneSource}
 use Rattle.mx_squash.specs.Chosen.{copy_fault, copies_of}
 use Rattle.mx_layout.specs.declared.Layout.{Layout}
 use Rattle.mx_layout.specs.Kept.{AreKept}
@@ -22,13 +21,6 @@ use Rattle.lab_certify.specs.declared.rejection.Rejection.TheVariants.{Source, B
 use Rattle.lab_certify.specs.Hash.{hash_digits}
 use Rattle.lab_certify.specs.Texts.{Claims}
 use Rattle.lab_certify.specs.Verified.{Before, AtBoth, goal_in, MayCarry, MayCopy, IsFirstOther, IsLinkable, claimed_code}
-
--- the blocks are those of a source, each with a plan and an address
-pub record IsReady (l : Layout) : Type 0 where
-  pub plans : length l.plans.items ≡ length l.blocks.items
-  pub starts : length l.starts.items ≡ length l.blocks.items
-  pub blocks : AreOfOneSource l.blocks.items
-  pub few : length l.blocks.items < 2 ^ 32
 
 -- the certificate has another hash, or another number of blocks
 abbrev pub IsOfAnother : List ℕ → List Block → Claims → Rejection → Type 0

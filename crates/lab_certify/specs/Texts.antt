@@ -5,7 +5,7 @@ use Rattle.std.specs.List.{list_all}
 use Rattle.std.specs.Str.{bytes_eq}
 use Rattle.mx_plans.specs.declared.Mark.{Mark}
 use Rattle.mx_plans.specs.declared.PlanFault.{PlanFault}
-use Rattle.mx_plans.specs.declared.PlanFault.TheVariants.{BadWord, NoBlock}
+use Rattle.mx_plans.specs.declared.PlanFault.TheVariants.{BadWord, TwoCounts, NoBlock}
 use Rattle.mx_plans.specs.declared.PlanFault.TheVariants as plan
 use Rattle.mx_plans.specs.Files.{lines_in, pieces_in, marks_after, marks_of_lines}
 use Rattle.lab_certify.specs.declared.certificate.Head.{Head}
@@ -47,6 +47,7 @@ abbrev pub plan_fault : PlanFault → CertificateFault
 plan_fault BadWord = BadItem
 plan_fault plan.TooLong = TooLong
 plan_fault plan.TwoPlaces = TwoPlaces
+plan_fault TwoCounts = BadItem
 plan_fault NoBlock = BadLine
 
 -- what the line of a block says

@@ -3,9 +3,10 @@ ghost use Rattle.std.specs.Prelude.{◌≡◌, ◌<◌, ℕ, cond, not, OnOk, If
 ghost use Rattle.mx_validate.specs.Validity.{Valid};
 ghost use Rattle.mx_squash.specs.Copies.{Site};
 ghost use Rattle.mx_link.specs.Parts.{sites_of};
+ghost use Rattle.mx_plans.specs.Ready.{IsReady};
 ghost use Rattle.lab_certify.specs.Texts.{claims_of};
 ghost use Rattle.lab_certify.specs.Verified.{AtBoth, MayCarry, MayCopy};
-ghost use Rattle.lab_certify.specs.Checks.{IsOfAnother, Begins, IsBrokenBy, IsElsewhere, IsForbidden, IsFirst, IsReady};
+ghost use Rattle.lab_certify.specs.Checks.{IsOfAnother, Begins, IsBrokenBy, IsElsewhere, IsForbidden, IsFirst};
 
 use crate::certificate::{Certificate, Head};
 use crate::rejection::Rejection;

@@ -56,6 +56,7 @@ pub(crate) fn plan_fault(fault: PlanFault) -> CertificateFault
         PlanFault::BadWord => CertificateFault::BadItem,
         PlanFault::TooLong => CertificateFault::TooLong,
         PlanFault::TwoPlaces => CertificateFault::TwoPlaces,
+        PlanFault::TwoCounts => CertificateFault::BadItem,
         PlanFault::NoBlock => CertificateFault::BadLine,
     }
 }

@@ -9,9 +9,9 @@ ghost use Rattle.mx_link.specs.Laid.{IsLaidAt};
 ghost use Rattle.mx_link.specs.Origins.{from_target};
 ghost use Rattle.mx_link.specs.Parts.{sites_of};
 ghost use Rattle.mx_reorg.specs.Greedy.{IsGreedy};
+ghost use Rattle.mx_plans.specs.Ready.{IsReady};
 ghost use Rattle.lab_certify.specs.Hash.{hash_digits};
 ghost use Rattle.lab_certify.specs.Printed.{squash_sign, head_text, block_line, head_of, site_line, certificate_text, IsCertificate};
-ghost use Rattle.lab_certify.specs.Checks.{IsReady};
 
 use crate::certificate::Head;
 use crate::hash::hash_digits;

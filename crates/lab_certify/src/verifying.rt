@@ -10,9 +10,10 @@ ghost use Rattle.mx_link.specs.Laid.{IsLaidAt};
 ghost use Rattle.mx_link.specs.Parts.{HaveRegisters, sites_of};
 ghost use Rattle.mx_link.specs.Linked.{linked_data};
 ghost use Rattle.mx_plans.specs.Says.{IsProposed};
+ghost use Rattle.mx_plans.specs.Ready.{IsReady};
 ghost use Rattle.lab_certify.specs.Texts.{Claims, claims_of};
 ghost use Rattle.lab_certify.specs.Verified.{counts_of, claimed_code, IsLinkable, IsVerified, IsUnverified};
-ghost use Rattle.lab_certify.specs.Checks.{IsReady, IsPlanned, IsSited, Passes, FailsAsPlanned, FailsAsSited, Fails, IsGiven, IsExpected, IsOtherImage};
+ghost use Rattle.lab_certify.specs.Checks.{IsPlanned, IsSited, Passes, FailsAsPlanned, FailsAsSited, Fails, IsGiven, IsExpected, IsOtherImage};
 
 use crate::certificate::{Certificate, Head};
 use crate::checking::{check_addresses, check_copies, check_plans, check_source};

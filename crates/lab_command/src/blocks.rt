@@ -1,23 +1,27 @@
 //! The reply of `blocks`.
 use cmd_answer::{Failure, Reply, Status};
-use cmd_source::read_program;
-use lab_blocks::{Facts, blocks_dot, blocks_json, blocks_text, source_blocks};
+use lab_blocks::{blocks_dot, blocks_json, blocks_text};
 use lab_line::{Asked, Form};
-use lab_runs::{or_memory, printed};
+use lab_runs::{RanBlocks, or_memory, printed, ran_blocks};
+use lab_watch::Watcher;
 use mx_io::{Memory, Shelf};
 
 // The blocks in the form that the words ask for.
-fn text_of(asked: &Asked, blocks: &[Facts]) -> Result<Vec<u8>, Memory> {
+fn text_of(asked: &Asked, ran: &RanBlocks) -> Result<Vec<u8>, Memory> {
+    let blocks = ran.blocks.as_slice();
     match asked.form() {
-        Form::Json => blocks_json(asked.alloc, asked.word("SOURCE"), blocks),
-        Form::Dot => or_memory(blocks_dot(asked.alloc, blocks)),
-        _ => or_memory(blocks_text(asked.alloc, blocks)),
+        Form::Json => blocks_json(asked.alloc, asked.word("SOURCE"), blocks, ran.halted),
+        Form::Dot => or_memory(blocks_dot(asked.alloc, blocks, ran.halted)),
+        _ => or_memory(blocks_text(asked.alloc, blocks, ran.halted)),
     }
 }
 
 /// The reply to `blocks SOURCE`.
-pub fn blocks_reply<S: Shelf>(asked: &Asked, shelf: &mut S) -> Result<Reply, Failure> {
-    let program = read_program(asked.alloc, shelf, asked.file("SOURCE"))?;
-    let blocks = source_blocks(asked.alloc, &program.source, &program.linked)?;
-    printed(Status::Done, text_of(asked, blocks.as_slice()))
+pub fn blocks_reply<S: Shelf, W: Watcher>(
+    asked: &Asked,
+    shelf: &mut S,
+    watcher: W,
+) -> Result<Reply, Failure> {
+    let ran = ran_blocks(asked, shelf, watcher)?;
+    printed(Status::Done, text_of(asked, &ran))
 }

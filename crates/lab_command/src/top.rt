@@ -14,7 +14,7 @@ use lab_line::{
     usage_text,
 };
 use lab_output::{Answer, Destination, Ended, failed, is_error, put_out};
-use lab_runs::run_reply;
+use lab_runs::{build_reply, debug_reply, run_reply};
 use lab_watch::Watcher;
 use mx_io::{Memory, Shelf, Sink};
 use std::alloc::{AllocError, Global};
@@ -36,10 +36,12 @@ fn answered_by<S: Shelf, W: Watcher>(
     notes: &mut Vec<u8>,
 ) -> Result<Reply, Failure> {
     match asked.command {
-        Command::Blocks => blocks_reply(asked, shelf),
+        Command::Blocks => blocks_reply(asked, shelf, watcher),
+        Command::Build => build_reply(asked, shelf, notes),
         Command::Certify => certify_reply(asked, shelf),
         Command::Check => check_reply(asked, shelf),
         Command::Compare => compare_reply(asked, shelf, watcher),
+        Command::Debug => debug_reply(asked, shelf, notes),
         Command::Disassemble => disassemble_reply(asked, shelf),
         Command::Plans => plans_reply(asked, shelf, watcher),
         Command::Verify => verify_reply(asked, shelf),
@@ -119,16 +121,17 @@ fn answer_of<'a, S: Shelf, C: Causes>(
         Ok(Answer {
             status,
             said,
-            to: destination(matches),
+            to: destination(command, matches),
         })
     }
 }
 
-// Where output goes: to the file that is named, if one is; `-` is standard output.
-fn destination<'a>(matches: &ArgMatches<'a>) -> Destination<'a> {
-    match matches.get_str("output") {
-        None | Some("-") => Destination::Output,
-        Some(name) => Destination::File(name),
+// Where output goes: to the file that is named, if one is; `-` is standard output. An image is written to the file of its name.
+fn destination<'a>(command: Command, matches: &ArgMatches<'a>) -> Destination<'a> {
+    match (command, matches.get_str("output"), matches.get_str("IMAGE")) {
+        (Command::Build, _, Some(name)) => Destination::File(name),
+        (_, None | Some("-"), _) => Destination::Output,
+        (_, Some(name), _) => Destination::File(name),
     }
 }
 

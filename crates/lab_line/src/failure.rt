@@ -55,16 +55,20 @@ impl Causes for Unknown {
 }
 
 /// What the faults of the lines of an interrupt or a plan file say, and what they mean.
-static LINE_FAULTS: [(&str, &str); 7] = [
+static LINE_FAULTS: [(&str, &str); 8] = [
     ("BadLine", "expected a cycle: a decimal number"),
     ("TooMany", "a file has at most 65,536 cycles"),
     (
         "NotAscending",
         "expected a cycle after the one of the line before",
     ),
-    ("BadWord", "expected a number from 0 to 63, '-' or '/'"),
-    ("TooLong", "a plan has at most 131 words"),
+    (
+        "BadWord",
+        "expected a number from 0 to 63, '-', '/', '+0', '+1' or '+2'",
+    ),
+    ("TooLong", "a plan has at most 131 items"),
     ("TwoPlaces", "a plan has one '/'"),
+    ("TwoCounts", "a plan has one '+0', '+1' or '+2'"),
     ("NoBlock", "the source has no block for this plan"),
 ];
 
@@ -228,10 +232,18 @@ fn push_error(text: &mut Writer, said: &str) {
     text.push_str(said);
 }
 
+// Appends that a source has no such label of an instruction.
+fn push_label(text: &mut Writer, name: &str, label: &str) {
+    push_error(text, "no instruction of '");
+    text.push_parts(&[name, "' has the label '", label, "'"]);
+}
+
 // Appends what is said of a source.
 fn push_source(text: &mut Writer, name: &str, said: &str) {
     if let Some(line) = said.strip_prefix("line ") {
         push_line(text, name, line);
+    } else if let Some(label) = said.strip_prefix("no code label ") {
+        push_label(text, name, label);
     } else if let Some((before, line)) = said.rsplit_once(": line ") {
         push_line(text, before, line);
     } else {

@@ -13,13 +13,23 @@ const MOST_WORDS: i64 = 64;
 
 const MOST_PENALTY: i64 = 1000;
 
+/// The most stops of a session.
+const MOST_STOPS: i64 = 1000;
+
+/// The first and the last word of the data.
+const FIRST_DATA: i64 = 256;
+
+const LAST_DATA: i64 = 65_535;
+
 /// A command.
 #[derive(Clone, Copy)]
 pub enum Command {
     Blocks,
+    Build,
     Certify,
     Check,
     Compare,
+    Debug,
     Disassemble,
     Plans,
     Verify,
@@ -51,6 +61,10 @@ pub(crate) enum Names {
     Plans,
     /// A source, an image file and a certificate.
     Certified,
+    /// A source and the image file that is written.
+    Image,
+    /// A source and a label.
+    Label,
 }
 
 /// What stands behind the name of an option.
@@ -58,6 +72,8 @@ pub(crate) enum Names {
 pub(crate) enum Takes {
     Nothing,
     File,
+    /// A file. The option has to be there.
+    NeededFile,
     /// A name and a file. It may come several times.
     NamedFile,
     /// A number, and the one that is taken where it is left out, if there is one.
@@ -148,6 +164,13 @@ const PLAN_FILE: OptionRow = OptionRow {
     name: "plans",
     takes: Takes::File,
     help: "a plan file, whose plans are run in place of a scheduler's",
+};
+
+// Without this option the toolchain answers the command.
+const LINKED_PLANS: OptionRow = OptionRow {
+    name: "plans",
+    takes: Takes::NeededFile,
+    help: "a plan file, by whose plans the source is linked",
 };
 
 const DRAW: [OptionRow; 8] = [
@@ -267,15 +290,20 @@ const COMPARE: [OptionRow; 5] = [
     INPUT,
 ];
 
-const BLOCKS: [OptionRow; 1] = [OptionRow {
-    name: "as",
-    takes: Takes::Word {
-        called: "FORM",
-        words: &["text", "json", "dot"],
-        default: "text",
+const BLOCKS: [OptionRow; 4] = [
+    OptionRow {
+        name: "as",
+        takes: Takes::Word {
+            called: "FORM",
+            words: &["text", "json", "dot"],
+            default: "text",
+        },
+        help: "the form of the blocks",
     },
-    help: "the form of the blocks",
-}];
+    BUDGET,
+    INTERRUPTS,
+    INPUT,
+];
 
 const DISASSEMBLE: [OptionRow; 1] = [OptionRow {
     name: "as",
@@ -388,11 +416,47 @@ const TRACE: [OptionRow; 6] = [
 
 const PLANS: [OptionRow; 3] = [BUDGET, INTERRUPTS, INPUT];
 
+const BUILD: [OptionRow; 1] = [LINKED_PLANS];
+
+// The numbers are those of the toolchain's command, which links without a plan file.
+const DEBUG: [OptionRow; 6] = [
+    LINKED_PLANS,
+    OptionRow {
+        name: "stops",
+        takes: Takes::Number {
+            default: Some("1"),
+            least: 1,
+            most: MOST_STOPS,
+        },
+        help: "how many stops are shown",
+    },
+    OptionRow {
+        name: "watch",
+        takes: Takes::Number {
+            default: Some("256"),
+            least: FIRST_DATA,
+            most: LAST_DATA,
+        },
+        help: "the data word that each stop shows",
+    },
+    OptionRow {
+        name: "budget",
+        takes: Takes::Number {
+            default: Some("1000000"),
+            least: 0,
+            most: MOST_BUDGET,
+        },
+        help: "the most cycles that the run may take",
+    },
+    INTERRUPTS,
+    INPUT,
+];
+
 const NONE: [OptionRow; 0] = [];
 
 /// The commands, in the order in which help tells them. Another one is added here and where it is answered: in `answers.rt` of
 /// `lab_runs`, or in `top.rt` of `lab_command`.
-pub(crate) static COMMANDS: [CommandRow; 13] = [
+pub(crate) static COMMANDS: [CommandRow; 15] = [
     CommandRow {
         name: "draw",
         command: Command::OfRun(RunCommand::Draw),
@@ -469,6 +533,20 @@ pub(crate) static COMMANDS: [CommandRow; 13] = [
         about: "runs a source by plans from a file",
         names: Names::Plans,
         options: &PLANS,
+    },
+    CommandRow {
+        name: "build",
+        command: Command::Build,
+        about: "writes a source that is linked by plans from a file as an image file",
+        names: Names::Image,
+        options: &BUILD,
+    },
+    CommandRow {
+        name: "debug",
+        command: Command::Debug,
+        about: "stops a source that is linked by plans from a file each time that it comes to a label",
+        names: Names::Label,
+        options: &DEBUG,
     },
     CommandRow {
         name: "certify",

@@ -25,7 +25,9 @@ fn first_arg<'a>(alloc: Global, names: Names) -> Arg<'a> {
         Names::Sources => name_arg(alloc, "SOURCE", SOURCE)
             .num_args(1..)
             .action(ArgAction::Append),
-        Names::Source | Names::Plans | Names::Certified => name_arg(alloc, "SOURCE", SOURCE),
+        Names::Source | Names::Plans | Names::Certified | Names::Image | Names::Label => {
+            name_arg(alloc, "SOURCE", SOURCE)
+        }
     }
 }
 
@@ -62,6 +64,10 @@ fn option_arg<'a>(alloc: Global, row: &OptionRow) -> Arg<'a> {
         Takes::File => bare_option(alloc, row)
             .value_name("FILE")
             .action(ArgAction::Set),
+        Takes::NeededFile => bare_option(alloc, row)
+            .value_name("FILE")
+            .action(ArgAction::Set)
+            .required(true),
         Takes::NamedFile => bare_option(alloc, row)
             .value_name("NAME=FILE")
             .action(ArgAction::Append),
@@ -128,6 +134,8 @@ fn named_command<'a>(alloc: Global, row: &CommandRow) -> Result<Command<'a>, All
         Names::Certified => bare
             .arg(name_arg(alloc, "IMAGE", "the image file"))?
             .arg(name_arg(alloc, "CERTIFICATE", "the certificate")),
+        Names::Image => bare.arg(name_arg(alloc, "IMAGE", "the image file that is written")),
+        Names::Label => bare.arg(name_arg(alloc, "LABEL", "the label of an instruction")),
         Names::Source | Names::Sources | Names::File => Ok(bare),
     }
 }
@@ -138,7 +146,10 @@ fn command_of<'a>(alloc: Global, row: &CommandRow) -> Result<Command<'a>, AllocE
     for option in row.options {
         command = command.arg(option_arg(alloc, option))?;
     }
-    command.arg(output_option(alloc))
+    match row.names {
+        Names::Image => Ok(command),
+        _ => command.arg(output_option(alloc)),
+    }
 }
 
 // The whole command line.

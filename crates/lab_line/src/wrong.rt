@@ -27,6 +27,8 @@ enum Wrong<'a> {
     Argument(&'a str),
     // An argument with this name is missing.
     Missing(&'static str),
+    // An option is missing.
+    MissingOption(OptionRow),
     // An option has no value, or this one, which it cannot have.
     NoValue(OptionRow),
     Value(OptionRow, &'a str),
@@ -102,6 +104,7 @@ fn row_in(rows: &[OptionRow], name: &str) -> Option<OptionRow> {
 fn row_of(command: &CommandRow, name: &str) -> Option<OptionRow> {
     match command.names {
         Names::Plans if name == PRINT.name => Some(PRINT),
+        Names::Image if name == OUTPUT.name => None,
         _ if name == OUTPUT.name => Some(OUTPUT),
         _ => row_in(command.options, name),
     }
@@ -129,7 +132,7 @@ fn is_among(words: &[&str], text: &str) -> bool {
 fn takes_value(row: &OptionRow, value: &str) -> bool {
     match row.takes {
         Takes::Nothing => false,
-        Takes::File | Takes::NamedFile => true,
+        Takes::File | Takes::NeededFile | Takes::NamedFile => true,
         Takes::Number { least, most, .. } => is_number(value, least, most),
         Takes::Word { words, .. } => is_among(words, value),
     }
@@ -222,7 +225,7 @@ fn wrong_value<'a>(row: OptionRow, word: &'a str) -> Option<Wrong<'a>> {
 fn most_arguments(command: &CommandRow) -> usize {
     match command.names {
         Names::Source | Names::File => 1,
-        Names::Plans => 2,
+        Names::Plans | Names::Image | Names::Label => 2,
         Names::Certified => 3,
         Names::Sources => usize::MAX,
     }
@@ -234,7 +237,8 @@ fn missing(command: &CommandRow, arguments: usize, is_printed: bool) -> Option<&
         (Names::File, 0) => Some("FILE"),
         (_, 0) => Some("SOURCE"),
         (Names::Plans, 1) if !is_printed => Some("FILE"),
-        (Names::Certified, 1) => Some("IMAGE"),
+        (Names::Certified | Names::Image, 1) => Some("IMAGE"),
+        (Names::Label, 1) => Some("LABEL"),
         (Names::Certified, 2) => Some("CERTIFICATE"),
         _ => None,
     }
@@ -296,9 +300,41 @@ fn wrong_after<'a>(command: &'a CommandRow, words: &'a [String]) -> Option<Wrong
         }
     }
     match walk.ends() {
-        None => repeated(command, words),
+        None => wrong_options(command, words),
         wrong => wrong,
     }
+}
+
+// The first option that comes again, or else the one that has to be there and is not.
+fn wrong_options<'a>(command: &CommandRow, words: &'a [String]) -> Option<Wrong<'a>> {
+    match repeated(command, words) {
+        None => match left_out(command, words) {
+            Some(row) => Some(Wrong::MissingOption(row)),
+            None => None,
+        },
+        wrong => wrong,
+    }
+}
+
+// The first option of a command that has to be there, and is none of the words.
+fn left_out(command: &CommandRow, words: &[String]) -> Option<OptionRow> {
+    for row in command.options {
+        if matches!(row.takes, Takes::NeededFile) && !is_named(row.name, words) {
+            return Some(*row);
+        }
+    }
+    None
+}
+
+// An option is one of the words.
+fn is_named(name: &str, words: &[String]) -> bool {
+    for word in words {
+        match option_in(word.as_str()) {
+            Some(given) if given.name == name => return true,
+            _ => {}
+        }
+    }
+    false
 }
 
 // The row of a command in a table.
@@ -375,7 +411,7 @@ fn push_expected(text: &mut Writer, row: &OptionRow) {
     text.push_str(": expected ");
     match row.takes {
         Takes::Nothing => text.push_str("no value"),
-        Takes::File => text.push_str("a file"),
+        Takes::File | Takes::NeededFile => text.push_str("a file"),
         Takes::NamedFile => text.push_str("NAME=FILE"),
         Takes::Number { least, most, .. } => {
             push_grouped(text, u64::try_from(least).unwrap_or(0));
@@ -399,6 +435,12 @@ fn push_no_value(text: &mut Writer, row: &OptionRow) {
     push_expected(text, row);
 }
 
+// Appends that an option is missing, and what was expected.
+fn push_no_option(text: &mut Writer, row: &OptionRow) {
+    text.push_parts(&["missing option '--", row.name, "'"]);
+    push_expected(text, row);
+}
+
 // Appends what is wrong.
 fn push_wrong(text: &mut Writer, wrong: Wrong) {
     match wrong {
@@ -407,6 +449,7 @@ fn push_wrong(text: &mut Writer, wrong: Wrong) {
             text.push_parts(&["unexpected argument '", word, "'"]);
         }
         Wrong::Missing(name) => text.push_parts(&["missing argument ", name]),
+        Wrong::MissingOption(row) => push_no_option(text, &row),
         Wrong::NoValue(row) => push_no_value(text, &row),
         Wrong::Value(row, value) => push_value(text, &row, value),
         Wrong::Flag(row) => text.push_parts(&["'--", row.name, "' takes no value"]),
@@ -430,7 +473,9 @@ fn option_names(alloc: Global, command: &CommandRow) -> Result<Vec<&'static str>
     for row in command.options {
         names.push(row.name)?;
     }
-    names.push(OUTPUT.name)?;
+    if !matches!(command.names, Names::Image) {
+        names.push(OUTPUT.name)?;
+    }
     Ok(names)
 }
 

@@ -39,4 +39,7 @@ pub record AreFigures (Proposes : Block → Plan → Type 0) (filling : Filling)
   pub noops : f.noops ≡ noops_in (linked_code filling source board sites)
   pub copies : f.copies ≡ copies_in (origins_of filling sites)
   pub cycles : f.cycles ≡ (run_with filling source sites requests bytes budget).counts.cycles
+  pub fetches : f.fetches ≡ (run_with filling source sites requests bytes budget).counts.fetches
+  pub misses : f.misses ≡ (run_with filling source sites requests bytes budget).counts.misses
+  pub squashes : f.squashes ≡ (run_with filling source sites requests bytes budget).counts.squashes
   pub halted : f.halted ≡ (run_with filling source sites requests bytes budget).halted

@@ -19,8 +19,10 @@ pub struct Figures {
     pub loads: Slots,
     /// The cycles of the run.
     pub cycles: u64,
-    /// The fetches of the run that missed, and the branches that squashed.
+    /// The fetches of the run, and those that missed.
+    pub fetches: u64,
     pub misses: u64,
+    /// The branches that squashed.
     pub squashes: u64,
     /// Whether the run halted within its budget.
     pub halted: bool,

@@ -16,6 +16,27 @@ pub(crate) fn cycles_in(driven: &Driven) -> u64
     driven.counts.cycles
 }
 
+/// The fetches of a run.
+pub(crate) fn fetches_in(driven: &Driven) -> u64
+    ensures { result ≡ driven.now.counts.fetches }
+{
+    driven.counts.fetches
+}
+
+/// The fetches of a run that missed.
+pub(crate) fn misses_in(driven: &Driven) -> u64
+    ensures { result ≡ driven.now.counts.misses }
+{
+    driven.counts.misses
+}
+
+/// The branches of a run that squashed their slots.
+pub(crate) fn squashes_in(driven: &Driven) -> u64
+    ensures { result ≡ driven.now.counts.squashes }
+{
+    driven.counts.squashes
+}
+
 /// Whether a run halted.
 pub(crate) fn has_halted(driven: &Driven) -> bool
     ensures { result ≡ driven.now.halted }

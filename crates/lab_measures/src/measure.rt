@@ -3,7 +3,7 @@ ghost use Rattle.std.specs.Prelude.{◌≡◌, ◌≤◌, IfOk, IfErr, cond, len
 ghost use Rattle.lab_measures.specs.Terms.{MAX_FILE_BYTES, IsRefusal, from_target, from_nowhere, board};
 ghost use Rattle.lab_measures.specs.Figures.{AreFigures, linked_run};
 
-use crate::machine::{cycles_in, has_halted};
+use crate::machine::{cycles_in, fetches_in, has_halted, misses_in, squashes_in};
 use crate::{Conditions, Figures, linked_with};
 use lab_terms::{given_to, slots_of};
 use lab_watch::{Watcher, watched_pipe};
@@ -31,6 +31,12 @@ pub fn figures_of_linked<W: Watcher>(
     ensures rejected { IfOk result (λ f. f.rejected ≡ linked.now.rejected) }
     ensures cycles { IfOk result (λ f. f.cycles ≡ (linked_run source.now linked.now
         conditions.now.requests.now conditions.now.input.now conditions.now.budget).counts.cycles) }
+    ensures fetches { IfOk result (λ f. f.fetches ≡ (linked_run source.now linked.now
+        conditions.now.requests.now conditions.now.input.now conditions.now.budget).counts.fetches) }
+    ensures misses { IfOk result (λ f. f.misses ≡ (linked_run source.now linked.now
+        conditions.now.requests.now conditions.now.input.now conditions.now.budget).counts.misses) }
+    ensures squashes { IfOk result (λ f. f.squashes ≡ (linked_run source.now linked.now
+        conditions.now.requests.now conditions.now.input.now conditions.now.budget).counts.squashes) }
     ensures halted { IfOk result (λ f. f.halted ≡ (linked_run source.now linked.now
         conditions.now.requests.now conditions.now.input.now conditions.now.budget).halted) }
 {
@@ -56,8 +62,9 @@ pub fn figures_of_linked<W: Watcher>(
         transfers,
         loads,
         cycles: cycles_in(&driven),
-        misses: driven.counts.misses,
-        squashes: driven.counts.squashes,
+        fetches: fetches_in(&driven),
+        misses: misses_in(&driven),
+        squashes: squashes_in(&driven),
         halted: has_halted(&driven),
     })
 }

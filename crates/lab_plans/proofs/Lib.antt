@@ -1,4 +1,5 @@
 pub mod Counts
+pub mod Laid
 pub mod Listed
 pub mod Means
 pub mod Reported

@@ -1,4 +1,5 @@
 pub mod Terms
+pub mod Copies
 pub mod Verdicts
 pub mod Linking
 pub mod Figures

@@ -1,4 +1,4 @@
--- What is told of plans that break a rule of valid plans: a line each.
+-- What is told of plans that break a rule of valid plans: a line each, and then one for each choice of copies that a rule forbids.
 use Rattle.std.specs.Prelude.{◌≡◌, ℕ, suc, List, [], ◌∷◌, ◌++◌, codes, slice_index, Option, Some, None}
 use Rattle.std.specs.Fmt.{decimal}
 use Rattle.mx_source.specs.SourceValue.{SourceValue}
@@ -8,6 +8,11 @@ use Rattle.mx_blocks.specs.declared.Plan.{Plan}
 use Rattle.mx_plans.specs.declared.Rule.{Rule}
 use Rattle.mx_plans.specs.declared.Rule.TheVariants.{Once, Terminator, Tail, Order, Delay, LastLoad, Room}
 use Rattle.mx_plans.specs.Rules.{IsVerdict}
+use Rattle.mx_plans.specs.Files.{LineSaid}
+use Rattle.mx_squash.specs.Copies.{Site}
+use Rattle.mx_layout.specs.Layout.{blocks_in}
+use Rattle.mx_plans.specs.Copies.{copy_verdicts}
+use Rattle.lab_plans.specs.Copies.{copy_lines}
 
 -- the first rule that each plan of a block breaks, if it breaks one
 abbrev pub AreVerdicts : List Block → List Plan → List (Option Rule) → Type 0
@@ -40,8 +45,9 @@ verdict_lines lines number (block ∷ blocks) (verdict ∷ verdicts) =
     verdict_line number (slice_index lines block.first) verdict ++ verdict_lines lines (suc number) blocks verdicts
 verdict_lines lines number _ _ = []
 
--- this is told of what is proposed for the blocks of a source
-pub record AreTold (source : SourceValue) (blocks : List Block) (plans : List Plan) (text : List ℕ) : Type 0 where
+-- this is told of what is proposed for the sites of a source, and of the copies that the lines of a file choose for them
+pub record AreTold (source : SourceValue) (sites : List Site) (plans : List Plan) (lines : List LineSaid) (text : List ℕ) : Type 0 where
   pub verdicts : List (Option Rule)
-  pub judged : AreVerdicts blocks plans verdicts
-  pub text_is : text ≡ verdict_lines source.lines 1 blocks verdicts
+  pub judged : AreVerdicts (blocks_in sites) plans verdicts
+  pub text_is : text ≡ verdict_lines source.lines 1 (blocks_in sites) verdicts
+      ++ copy_lines source.lines 1 (blocks_in sites) (copy_verdicts sites sites lines)

@@ -1,6 +1,7 @@
 //! A source by the plans of a file: which of them are rejected, the report of its run, and its figures.
 #![tactic(auto)]
 
+mod copies;
 mod figures;
 mod linking;
 mod planned;

@@ -1,35 +1,41 @@
 //! Linking by the plans of a file, and what is told of those that are rejected.
 ghost use Rattle.std.specs.Prelude.{◌≡◌, ◌≤◌, ◌+◌, ◌*◌, OnOk, IfOk, IfErr, length};
-ghost use Rattle.lab_plans.specs.Terms.{IsSource, IsRefusal, IsLinked, from_target, HaveRegisters, board, marks_of_lines, IsProposed};
+ghost use Rattle.mx_layout.specs.Kept.{AreKept};
+ghost use Rattle.mx_link.specs.Laid.{IsLaidAt};
+ghost use Rattle.mx_link.specs.Parts.{sites_of};
+ghost use Rattle.lab_plans.specs.Terms.{IsSource, IsRefusal, HaveRegisters, board, lines_said, marks_of, IsProposed};
 ghost use Rattle.lab_plans.specs.Linking.{IsLinkedTold};
 
 use crate::verdicts::told;
-use mx_blocks::blocks;
 use mx_isa::BOARD;
+use mx_layout::Layout;
 use mx_link::{LinkError, Linked};
-use mx_plans::{PlanLine, link_planned};
+use mx_plans::{PlanLine, lay_planned, link_lines};
 use mx_source::Source;
-use std::alloc::{AllocError, Global};
+use std::alloc::Global;
 
-/// A source that is linked by the plans of a file, and a line for each plan that is rejected: its block is padded.
+/// A source that is linked by the plans of a file, and a line for each plan that is rejected, whose block is padded, and for copies
+/// that are rejected, in whose place nothing is copied.
 #[derive(Drop)]
 pub struct LinkedTold {
     pub linked: Linked,
     pub rejections: Vec<u8>,
 }
 
-/// Links a source at the board's place by the plans that the lines of a file say.
-fn linked_by(alloc: Global, source: &Source, plans: &[PlanLine]) -> Result<Linked, LinkError>
-    ensures linked { IfOk result (IsLinked (IsProposed source.now (marks_of_lines plans.now)) from_target source.now board) }
-    ensures registers { OnOk result (HaveRegisters source.now.statements) }
+/// Lays out a source at the board's place by the plans that the lines of a file say.
+#[tactic(auto, using(crate::proofs::Laid::proposals_count))]
+fn laid_by(alloc: Global, source: &Source, plans: &[PlanLine]) -> Result<Layout, LinkError>
     ensures source { IsSource source.now }
-    ensures refused { IfErr result (IsRefusal (IsProposed source.now (marks_of_lines plans.now)) source.now board) }
+    ensures laid { IfOk result (IsLaidAt source.now board) }
+    ensures kept { IfOk result (λ l. AreKept (IsProposed source.now (marks_of (lines_said plans.now))) l.rejected (sites_of l) l.proposals.items) }
+    ensures refused { IfErr result (IsRefusal (IsProposed source.now (marks_of (lines_said plans.now))) source.now board) }
 {
     let _statements = source.statements();
-    link_planned(alloc, source, BOARD, plans)
+    lay_planned(alloc, source, BOARD, plans)
 }
 
-/// Links a source at the board's place by the plans that the lines of a file say, and tells which of them are rejected.
+/// Links a source at the board's place by the plans that the lines of a file say, with the copies that they choose, and tells which
+/// of them are rejected.
 ///
 /// # Errors
 ///
@@ -39,14 +45,13 @@ pub fn link_told(
     source: &Source,
     plans: &[PlanLine],
 ) -> Result<LinkedTold, LinkError>
-    ensures told { IfOk result (IsLinkedTold source.now (marks_of_lines plans.now)) }
+    ensures told { IfOk result (IsLinkedTold source.now (lines_said plans.now)) }
     ensures registers { OnOk result (HaveRegisters source.now.statements) }
     ensures source { IsSource source.now }
-    ensures refused { IfErr result (IsRefusal (IsProposed source.now (marks_of_lines plans.now)) source.now board) }
+    ensures refused { IfErr result (IsRefusal (IsProposed source.now (marks_of (lines_said plans.now))) source.now board) }
 {
-    let linked = linked_by(alloc, source, plans)?;
-    let blocks = blocks(alloc, source)?;
-    let proposals = linked.proposals.as_slice();
-    let rejections = told(alloc, source, blocks.as_slice(), proposals)?;
+    let layout = laid_by(alloc, source, plans)?;
+    let rejections = told(alloc, source, &layout, plans)?;
+    let linked = link_lines(alloc, source, BOARD, layout, plans)?;
     Ok(LinkedTold { linked, rejections })
 }

@@ -4,7 +4,7 @@ ghost use Rattle.mx_io.specs.declared.limits.TheConstants.{MAX_FILE_BYTES};
 ghost use Rattle.cmd_answer.specs.Answer.{prints};
 ghost use Rattle.cmd_answer.specs.Replies.{reply_answer};
 ghost use Rattle.cmd_answer.specs.declared.Status.{Status as HowItEnds};
-ghost use Rattle.lab_plans.specs.Terms.{IsRefusal, board, marks_of_lines, IsProposed};
+ghost use Rattle.lab_plans.specs.Terms.{IsRefusal, board, lines_said, marks_of, IsProposed};
 ghost use Rattle.lab_plans.specs.Planned.{IsRunByPlans};
 ghost use Rattle.lab_plans.specs.Runs.{run_answer};
 
@@ -66,8 +66,8 @@ fn run_reply<W: Watcher>(
 }
 
 /// Links a source by the plans that the lines of a file say, and runs it under the shipped handler with these requests:
-/// a line for each plan that is rejected, and the report of the run. A rejected plan does not run: its block is padded.
-/// A watcher is told how far the run has come.
+/// a line for each plan that is rejected and for copies that are, and the report of the run. A rejected plan does not run: its block
+/// is padded. Where its copies are rejected, it copies nothing. A watcher is told how far the run has come.
 ///
 /// # Errors
 ///
@@ -82,8 +82,8 @@ pub fn planned_reply<W: Watcher>(
     watcher: W,
 ) -> Result<Reply, LinkError>
     requires { length input.now ≤ MAX_FILE_BYTES }
-    ensures planned { IfOk result (λ r. IsRunByPlans source.now (marks_of_lines plans.now) requests.now input.now budget (reply_answer r)) }
-    ensures refused { IfErr result (IsRefusal (IsProposed source.now (marks_of_lines plans.now)) source.now board) }
+    ensures planned { IfOk result (λ r. IsRunByPlans source.now (lines_said plans.now) requests.now input.now budget (reply_answer r)) }
+    ensures refused { IfErr result (IsRefusal (IsProposed source.now (marks_of (lines_said plans.now))) source.now board) }
 {
     let planned = link_told(alloc, source, plans)?;
     let linked = &planned.linked;

@@ -1,10 +1,17 @@
-//! What is told of the plans that are rejected.
+//! What is told of the plans and copies that are rejected.
 ghost use Rattle.std.specs.Prelude.{◌≡◌, ◌++◌, OnOk, IfOk, length, slice_index};
+ghost use Rattle.mx_link.specs.Laid.{IsLaidAt};
+ghost use Rattle.mx_link.specs.Parts.{sites_of};
+ghost use Rattle.mx_plans.specs.Copies.{copy_verdicts};
+ghost use Rattle.lab_plans.specs.Terms.{board, lines_said};
 ghost use Rattle.lab_plans.specs.Verdicts.{AreTold, AreVerdicts, rule_text, rejection_line, verdict_line, verdict_lines};
 
+use crate::copies::push_copy_lines;
 use mx_blocks::{Block, Plan};
-use mx_plans::{Rule, first_broken_rule};
+use mx_layout::Layout;
+use mx_plans::{PlanLine, Rule, copy_verdicts, first_broken_rule};
 use mx_source::Source;
+use mx_squash::CopyRule;
 use mx_text::{push_decimal, push_line};
 use std::alloc::{AllocError, Global};
 
@@ -58,7 +65,7 @@ fn push_verdict(
 }
 
 /// A number of a list, 0 past its end.
-fn number_at(numbers: &[u32], index: u32) -> u32
+pub(crate) fn number_at(numbers: &[u32], index: u32) -> u32
     ensures { result ≡ slice_index numbers.now index }
 {
     match numbers.get(index as usize) {
@@ -101,16 +108,37 @@ fn verdict_lines(
     Ok(text)
 }
 
-/// The lines of what is proposed for the blocks of a source and breaks a rule.
+/// The first rule that forbids the copies that each line of a file chooses, for a source that is laid out.
+#[tactic(auto, using(crate::proofs::Laid::ready))]
+fn copies_judged(
+    alloc: Global,
+    source: &Source,
+    layout: &Layout,
+    plans: &[PlanLine],
+) -> Result<Vec<Option<CopyRule>>, AllocError>
+    requires { IsLaidAt source.now board layout.now }
+    ensures judged { let all = sites_of layout.now in IfOk result (λ verdicts. verdicts.items ≡ copy_verdicts all all (lines_said plans.now)) }
+{
+    copy_verdicts(alloc, layout, plans)
+}
+
+/// The lines of what is proposed for the blocks of a source that is laid out and breaks a rule, and then of the copies that the lines of
+/// a file choose and a rule forbids.
 pub(crate) fn told(
     alloc: Global,
     source: &Source,
-    blocks: &[Block],
-    plans: &[Plan],
+    layout: &Layout,
+    plans: &[PlanLine],
 ) -> Result<Vec<u8>, AllocError>
-    requires { length plans.now ≡ length blocks.now }
-    ensures { IfOk result (λ text. AreTold source.now blocks.now plans.now text.items) }
+    requires laid { IsLaidAt source.now board layout.now }
+    requires count { length layout.now.proposals.items ≡ length layout.now.blocks.items }
+    ensures { IfOk result (λ text. AreTold source.now (sites_of layout.now) layout.now.proposals.items (lines_said plans.now) text.items) }
 {
-    let verdicts = verdicts_of(alloc, blocks, plans)?;
-    verdict_lines(alloc, source.lines(), blocks, verdicts.as_slice())
+    let lines = source.lines();
+    let blocks = layout.blocks.as_slice();
+    let verdicts = verdicts_of(alloc, blocks, layout.proposals.as_slice())?;
+    let copies = copies_judged(alloc, source, layout, plans)?;
+    let mut text = verdict_lines(alloc, lines, blocks, verdicts.as_slice())?;
+    push_copy_lines(alloc, &mut text, lines, blocks, copies.as_slice())?;
+    Ok(text)
 }

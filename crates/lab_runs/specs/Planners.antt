@@ -1,8 +1,8 @@
 -- Sources that are linked by a scheduler, or by the plans of a file.
 use Rattle.std.specs.Prelude.{◌≡◌}
-use Rattle.mx_layout.specs.Layout.{blocks_in}
-use Rattle.mx_plans.specs.Files.{marks_of_lines}
+use Rattle.mx_plans.specs.Files.{lines_said, marks_of}
 use Rattle.mx_plans.specs.Says.{IsProposed}
+use Rattle.mx_plans.specs.Copies.{as_planned}
 use Rattle.cmd_source.specs.declared.sources.Program.{Program}
 use Rattle.lab_plans.specs.Verdicts.{AreTold}
 use Rattle.lab_runs.specs.declared.planners.FilePlans.{FilePlans}
@@ -10,12 +10,13 @@ use Rattle.lab_runs.specs.declared.planners.Planner.{Planner}
 use Rattle.lab_runs.specs.declared.planners.Planner.TheVariants.{Scheduler, File}
 use Rattle.lab_runs.specs.declared.planners.PlannedProgram.{PlannedProgram}
 use Rattle.lab_runs.specs.declared.schedulers.Scheduler.{Scheduler as Chosen}
-use Rattle.lab_runs.specs.Schedulers.{board, from_target, IsLinked, IsLinkedBy}
+use Rattle.lab_runs.specs.Schedulers.{board, IsLinked, IsLinkedBy}
 
--- the source is linked by what the lines of a file say, with copies, and there is a line for each plan that is not valid
+-- the source is linked by what the lines of a file say, with the copies that they choose, and there is a line for each plan that is not
+-- valid and for copies that a rule forbids
 pub record IsLinkedByFile (plans : FilePlans) (p : Program) : Type 0 where
-  pub is : IsLinked (IsProposed p.source (marks_of_lines plans.lines.items)) from_target p.source board p.linked
-  pub told : AreTold p.source (blocks_in is.sites) p.linked.proposals.items plans.rejections.items
+  pub is : IsLinked (IsProposed p.source (marks_of (lines_said plans.lines.items))) (as_planned (lines_said plans.lines.items)) p.source board p.linked
+  pub told : AreTold p.source is.sites p.linked.proposals.items (lines_said plans.lines.items) plans.rejections.items
 
 -- the source is linked so
 abbrev pub IsLinkedAs : Planner → Program → Type 0

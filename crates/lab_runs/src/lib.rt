@@ -2,7 +2,10 @@
 #![tactic(auto)]
 
 mod answers;
+mod blocks_ran;
+mod building;
 mod caches;
+mod debugging;
 mod draw;
 mod explain;
 mod interrupts;
@@ -16,6 +19,9 @@ mod stimulus;
 mod trace;
 
 pub use answers::run_reply;
+pub use blocks_ran::{RanBlocks, ran_blocks};
+pub use building::build_reply;
+pub use debugging::debug_reply;
 pub use plan_files::plans_of;
 pub use replies::{answered, or_memory, printed, refused, unlinked};
 pub use stimulus::{Stimulus, read_stimulus};

@@ -15,7 +15,7 @@ use mx_io::Shelf;
 use mx_plans::PlanLine;
 use std::alloc::Global;
 
-/// The lines of a plan file, and a line for each plan of it that is rejected.
+/// The lines of a plan file, and a line for each plan of it that is rejected and for copies that are.
 #[derive(Drop)]
 pub struct FilePlans {
     pub lines: Vec<PlanLine>,
@@ -38,7 +38,7 @@ impl Planner {
         }
     }
 
-    /// A line for each plan that is rejected.
+    /// A line for each plan that is rejected, and for copies that are.
     pub fn rejections(&self) -> &[u8] {
         match self {
             Planner::Scheduler(_) => b"",

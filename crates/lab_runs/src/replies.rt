@@ -3,6 +3,7 @@ ghost use Rattle.std.specs.Prelude.{◌≡◌, if◌then◌else◌, Ok, Err, Mat
 ghost use Rattle.std.specs.Result.{result_ok};
 ghost use Rattle.cmd_answer.specs.Answer.{prints, text_line};
 ghost use Rattle.cmd_answer.specs.Replies.{OfFailure};
+ghost use Rattle.lab_runs.specs.Refusals.{Tells};
 
 use cmd_answer::{Failure, Reply, Status, line_reply};
 use cmd_source::overlong_reply;
@@ -64,7 +65,9 @@ pub fn refused(alloc: Global, status: Status, line: Result<String, AllocError>) 
 }
 
 /// A source is not linked.
-pub fn unlinked(alloc: Global, error: &LinkError) -> Failure {
+pub fn unlinked(alloc: Global, error: &LinkError) -> Failure
+    ensures { Tells error.now result }
+{
     match *error {
         LinkError::Displacement { line, from, to } => answered(overlong_reply(
             alloc, line, from, to,

@@ -10,10 +10,7 @@ use Rattle.mx_layout.specs.Kept.{AreKept}
 use Rattle.mx_layout.specs.declared.LinkError.{LinkError}
 use Rattle.mx_layout.specs.declared.LinkError.TheVariants.{Displacement, Memory}
 use Rattle.mx_layout.specs.Overlong.{Overlong, IsOverlong, IsRefusal}
-use Rattle.mx_link.specs.declared.linked.Linked.{Linked}
-use Rattle.mx_link.specs.Origins.{Filling}
 use Rattle.mx_layout.specs.declared.Layout.{Layout}
-use Rattle.mx_link.specs.Linked.{IsLinked}
 use Rattle.mx_link.specs.Parts.{sites_of}
 
 module _ (P Q : Block → Plan → Type 0) (follows : (block : Block) (plan : Plan) → P block plan → Q block plan) where
@@ -29,21 +26,6 @@ module _ (P Q : Block → Plan → Type 0) (follows : (block : Block) (plan : Pl
         k.1,
   )
 
-  pub linked_follows : (filling : Filling) (source : SourceValue) (place : Place) (l : Linked) → IsLinked P filling source place l
-      → IsLinked Q filling source place l
-  linked_follows filling source place l k = record {
-    sites = k.sites;
-    layout = k.layout;
-    kept = kept_follows l.rejected k.sites l.proposals.items k.kept;
-    reach = k.reach;
-    code = k.code;
-    user_data = k.user_data;
-    links = k.links;
-    origin = k.origin;
-    noops = k.noops;
-    copies = k.copies;
-  }
-
   too_long_follows : (source : SourceValue) (place : Place) (found : Overlong) → IsOverlong P source place found → IsOverlong Q source place found
   too_long_follows source place found t = record {
     sites = t.sites;
@@ -57,11 +39,6 @@ module _ (P Q : Block → Plan → Type 0) (follows : (block : Block) (plan : Pl
   pub refusal_follows : (source : SourceValue) (place : Place) (error : LinkError) → IsRefusal P source place error → IsRefusal Q source place error
   refusal_follows source place (Displacement line from to) r = too_long_follows source place _ r
   refusal_follows source place Memory r = r
-
-  pub if_linked : (filling : Filling) (source : SourceValue) (place : Place) (r : Result Linked LinkError) → IfOk r (IsLinked P filling source place)
-      → IfOk r (IsLinked Q filling source place)
-  if_linked filling source place (Ok l) h = linked_follows filling source place l h
-  if_linked filling source place (Err e) h = tt
 
   pub if_refused : {A : Type 0} (source : SourceValue) (place : Place) (r : Result A LinkError) → IfErr r (IsRefusal P source place)
       → IfErr r (IsRefusal Q source place)

@@ -1,5 +1,5 @@
 -- What a line of a plan file says.
-use Rattle.std.specs.Prelude.{◌≡◌, ℕ, ◌+◌, ◌-◌, ◌*◌, Bool, true, false, cond, ltb, ◌==◌, ◌&&◌, List, [], ◌∷◌, length, map, Option, Some, None}
+use Rattle.std.specs.Prelude.{◌≡◌, ℕ, ◌+◌, ◌-◌, ◌*◌, Bool, true, false, cond, ltb, leb, ◌==◌, ◌&&◌, List, [], ◌∷◌, length, map, Option, Some, None}
 use Rattle.std.specs.Char.{is_ascii_digit}
 use Rattle.std.specs.List.{position}
 use Rattle.std.specs.Option.{unwrap_or}
@@ -28,6 +28,11 @@ is_word c _ = false
 -- what a word says: `-` a no-op, `/` the terminator, a number the instruction of that number
 abbrev pub mark_of : List ℕ → Option Mark
 mark_of word = cond (is_word 45 word) (Some NoOp) (cond (is_word 47 word) (Some Terminator) (number_of word))
+
+-- how many words of the target the slots copy, as `+0`, `+1` or `+2` chooses
+abbrev pub copies_word : List ℕ → Option ℕ
+copies_word (plus ∷ digit ∷ []) = cond (plus == 43 && (leb 48 digit && leb digit 50)) (Some (digit - 48)) None
+copies_word _ = None
 
 -- the item that stands for it in a plan of the block
 abbrev pub item_said : Block → Mark → Item

@@ -1,6 +1,6 @@
 //! The words of a plan's line.
 ghost use Rattle.std.specs.Prelude.{◌≡◌};
-ghost use Rattle.mx_plans.specs.Marks.{number_of, mark_of, item_said, is_terminator};
+ghost use Rattle.mx_plans.specs.Marks.{number_of, mark_of, copies_word, item_said, is_terminator};
 
 use mx_blocks::{Block, Item};
 
@@ -49,6 +49,16 @@ pub(crate) fn mark_of(word: &[u8]) -> Option<Mark>
         [b'-'] => Some(Mark::NoOp),
         [b'/'] => Some(Mark::Terminator),
         _ => number_of(word),
+    }
+}
+
+/// How many words of the target the slots copy, as `+0`, `+1` or `+2` chooses.
+pub(crate) fn copies_word(word: &[u8]) -> Option<u8>
+    ensures { result ≡ copies_word word.now }
+{
+    match *word {
+        [b'+', digit] if b'0' <= digit && digit <= b'2' => Some(digit - b'0'),
+        _ => None,
     }
 }
 

@@ -1,6 +1,6 @@
 //! Commands over files in memory.
 use anyhow::Result;
-use lab_command::{Unknown, lab};
+use lab_command::{Status, Unknown, lab};
 use lab_watch::Unwatched;
 use mx_io::{MemoryShelf, MemorySink};
 use std::alloc::Global;
@@ -11,6 +11,9 @@ const ROOM: usize = 1_048_576;
 
 /// How many bytes the sink takes at most in one put.
 const PIECE: usize = 4096;
+
+/// What is between two commands.
+const BETWEEN: &str = " ; ";
 
 /// How a command ended, what it printed, and what went to standard error.
 #[derive(Drop)]
@@ -66,21 +69,33 @@ pub fn run_with(rt: &HostRuntime, line: &str, name: &str, bytes: &[u8]) -> Resul
     run_over(rt.alloc(), line, &mut shelf)
 }
 
-// Runs the command over a shelf.
+// Runs the commands of a line, one after the other, over a shelf: the next one where the one before it is done.
 fn run_over(alloc: Global, line: &str, shelf: &mut MemoryShelf) -> Result<Ended> {
-    let words = words_of(alloc, line)?;
     let mut output = MemorySink::new(alloc, PIECE, ROOM)?;
-    let ended = lab(
-        alloc,
-        words.as_slice(),
-        shelf,
-        &mut output,
-        Unwatched,
-        Unknown,
-    );
+    let mut errors = Vec::new(alloc);
+    let mut status = Status::Done;
+    for command in line.split(BETWEEN) {
+        if status == Status::Done {
+            status = run_one(alloc, command, shelf, &mut output, &mut errors)?;
+        }
+    }
     Ok(Ended {
-        status: ended.status.number(),
+        status: status.number(),
         output,
-        errors: ended.errors,
+        errors,
     })
+}
+
+// Runs a command over a shelf, and adds what goes to standard error.
+fn run_one(
+    alloc: Global,
+    line: &str,
+    shelf: &mut MemoryShelf,
+    output: &mut MemorySink,
+    errors: &mut Vec<u8>,
+) -> Result<Status> {
+    let words = words_of(alloc, line)?;
+    let ended = lab(alloc, words.as_slice(), shelf, output, Unwatched, Unknown);
+    errors.extend_from_slice(ended.errors.as_slice())?;
+    Ok(ended.status)
 }

@@ -37,9 +37,10 @@ fn loads_of(loads: Slots) -> [(&'static str, u64); 2] {
 }
 
 // What the run comes to.
-fn run_of(figures: &Figures) -> [(&'static str, u64); 3] {
+fn run_of(figures: &Figures) -> [(&'static str, u64); 4] {
     [
         ("cycles", figures.cycles),
+        ("fetches", figures.fetches),
         ("misses", figures.misses),
         ("squashes", figures.squashes),
     ]

@@ -8,7 +8,7 @@ use mx_io::Memory;
 use std::alloc::Global;
 
 /// The names of the columns.
-static COLUMNS: [&str; 16] = [
+static COLUMNS: [&str; 17] = [
     "source",
     "plans",
     "words",
@@ -22,6 +22,7 @@ static COLUMNS: [&str; 16] = [
     "load_slots",
     "load_slots_filled",
     "cycles",
+    "fetches",
     "misses",
     "squashes",
     "rejected",

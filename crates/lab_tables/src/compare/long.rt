@@ -11,7 +11,7 @@ const SOURCE: &str = "source";
 
 /// The heads of the other columns: of those whose numbers have a part in per cent, and of those behind them.
 const HEAD: &str =
-    "  plans      words           no-ops            slots            loads           cycles           misses  squashes\n";
+    "  plans      words           no-ops            slots            loads           cycles          fetches   misses  squashes\n";
 
 /// What the sums are told under.
 const ALL: &str = "all";
@@ -34,13 +34,14 @@ fn cells_of(figures: &Figures, padded: &Figures) -> [Cell; 5] {
     ]
 }
 
-// Appends the misses and squashes of a run, or `-` where it has not halted.
+// Appends the fetches, misses and squashes of a run, or `-` where it has not halted.
 fn push_counts(table: &mut Writer, figures: &Figures) {
     if figures.halted {
+        table.push_cell(Some(figures.fetches as i128), 9);
         table.push_cell(Some(figures.misses as i128), 9);
         table.push_cell(Some(figures.squashes as i128), 9);
     } else {
-        table.push_str("         -         -");
+        table.push_str("         -         -         -");
     }
     table.push('\n');
 }
@@ -67,7 +68,7 @@ fn push_told(table: &mut Writer, halted: usize, sources: usize) {
     if halted < sources {
         table.push_numbers(
             &[
-                "The sums of cycles, misses and squashes are of ",
+                "The sums of cycles, fetches, misses and squashes are of ",
                 " of the ",
                 " sources: those of which each run halted.\n",
             ],

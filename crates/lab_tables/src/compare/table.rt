@@ -11,7 +11,7 @@ const NAMES: usize = 21;
 const COLUMN: usize = 17;
 
 /// What the rows are named by, in a column of its own.
-static ROWS: [&str; 14] = [
+static ROWS: [&str; 15] = [
     "words                ",
     "  no-ops             ",
     "  copies             ",
@@ -23,6 +23,7 @@ static ROWS: [&str; 14] = [
     "load slots           ",
     "  filled             ",
     "cycles               ",
+    "  fetches            ",
     "  misses             ",
     "  squashes           ",
     "rejected plans       ",
@@ -41,7 +42,7 @@ pub(crate) fn cycles_of(figures: &Figures, padded: &Figures) -> Cell {
 }
 
 /// The cells of plans, beside the padded ones.
-pub(crate) fn column_of(figures: &Figures, padded: &Figures) -> [Cell; 14] {
+pub(crate) fn column_of(figures: &Figures, padded: &Figures) -> [Cell; 15] {
     let (words, slots, loads) = (figures.words as u64, figures.transfers, figures.loads);
     let all = slots.all() as u64;
     [
@@ -56,6 +57,7 @@ pub(crate) fn column_of(figures: &Figures, padded: &Figures) -> [Cell; 14] {
         Some((loads.all as u64, 0)),
         Some((loads.filled as u64, loads.all as u64)),
         cycles_of(figures, padded),
+        Some((figures.fetches, 0)),
         Some((figures.misses, 0)),
         Some((figures.squashes, 0)),
         Some((figures.rejected as u64, 0)),

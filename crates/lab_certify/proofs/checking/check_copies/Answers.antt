@@ -2,7 +2,7 @@ use Rattle.std.proofs.Common.{◌<◌, length, arith}
 use Rattle.mx_link.specs.Parts.{sites_of}
 use Rattle.lab_certify.specs.Verified.{MayCarry, MayCopy}
 use Rattle.lab_certify.proofs.Both.{one_more, at_place, all_places}
-use Rattle.lab_certify.proofs.Sites.{site_there, site_count}
+use Rattle.mx_plans.proofs.Sites.{site_there, site_count}
 use Rattle.lab_certify.proofs.checking.check_copies.Goals as goal
 
 pub returns-in-Err-clause-rejected : goal.returns-in-Err-clause-rejected

@@ -3,7 +3,7 @@ use Rattle.mx_link.proofs.Wanted.{asked_at}
 use Rattle.mx_link.specs.Parts.{sites_of}
 use Rattle.mx_squash.specs.declared.Copied.{Copied}
 use Rattle.lab_certify.specs.Verified.{goal_in}
-use Rattle.lab_certify.proofs.Asked.{ok_asked}
+use Rattle.mx_plans.proofs.Asked.{ok_asked}
 use Rattle.lab_certify.proofs.Same.{alike_same, alike_other}
 use Rattle.lab_certify.proofs.checking.check_copy.Goals as goal
 

@@ -2,7 +2,7 @@ use Rattle.std.proofs.Common.{◌<◌, length, arith}
 use Rattle.mx_link.specs.Parts.{sites_of}
 use Rattle.mx_link.proofs.Pushes.{flat_pushed, flat_end}
 use Rattle.lab_certify.specs.Printed.{site_line}
-use Rattle.lab_certify.proofs.Sites.{site_there, site_count}
+use Rattle.mx_plans.proofs.Sites.{site_there, site_count}
 use Rattle.lab_certify.proofs.printing.push_sites.Goals as goal
 
 pub loop-k-preserved : goal.loop-k-preserved

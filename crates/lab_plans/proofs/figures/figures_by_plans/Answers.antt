@@ -4,9 +4,9 @@ use Rattle.mx_layout.specs.Kept.{AreKept}
 use Rattle.mx_turn.specs.Handler.{shipped}
 use Rattle.mx_turn.specs.Program.{program_of}
 use Rattle.mx_turn.specs.Run.{MachineRun, run_of}
-use Rattle.mx_link.specs.Origins.{from_target}
-use Rattle.mx_plans.specs.Files.{marks_of_lines}
+use Rattle.mx_plans.specs.Files.{lines_said, marks_of}
 use Rattle.mx_plans.specs.Says.{IsProposed}
+use Rattle.mx_plans.specs.Copies.{as_planned}
 use Rattle.lab_measures.specs.Figures.{run_with, linked_run}
 use Rattle.lab_plans.proofs.figures.figures_by_plans.Goals as goal
 
@@ -16,12 +16,13 @@ returns-clause-figures g c =
     let requests = c.args.conditions.now.requests.now in
     let bytes = c.args.conditions.now.input.now in
     let budget = c.args.conditions.now.budget in
-    let proposes = IsProposed source (marks_of_lines c.args.plans.now) in
+    let lines = lines_said c.args.plans.now in
+    let proposes = IsProposed source (marks_of lines) in
     let linked = c.in_ok-told.told.linked in
     let t = c.in_ok-told.ensures.told in
     let k = t.is in
     let f = c.in_ok-figures.ensures in
-    let runs : linked_run source linked requests bytes budget ≡ run_with from_target source k.sites requests bytes budget =
+    let runs : linked_run source linked requests bytes budget ≡ run_with (as_planned lines) source k.sites requests bytes budget =
     λ i. run_of (program_of shipped (k.code i) (k.user_data i) (given source.input bytes)) requests budget in
     record {
       figures = record {
@@ -33,6 +34,9 @@ returns-clause-figures g c =
         noops = f.noops ∙ k.noops;
         copies = f.copies ∙ k.copies;
         cycles = f.cycles ∙ ap (λ (r : MachineRun). r.counts.cycles) runs;
+        fetches = f.fetches ∙ ap (λ (r : MachineRun). r.counts.fetches) runs;
+        misses = f.misses ∙ ap (λ (r : MachineRun). r.counts.misses) runs;
+        squashes = f.squashes ∙ ap (λ (r : MachineRun). r.counts.squashes) runs;
         halted = f.halted ∙ ap (λ (r : MachineRun). r.halted) runs;
       };
       told = t.told;

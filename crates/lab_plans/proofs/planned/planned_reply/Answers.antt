@@ -1,4 +1,4 @@
-use Rattle.mx_plans.specs.Files.{marks_of_lines}
+use Rattle.mx_plans.specs.Files.{lines_said, marks_of}
 use Rattle.mx_plans.specs.Says.{IsProposed}
 use Rattle.lab_plans.specs.Runs.{report_of}
 use Rattle.lab_plans.proofs.Means.{runs, means}
@@ -10,7 +10,8 @@ returns-clause-planned g c =
     let requests = c.args.requests.now in
     let bytes = c.args.input.now in
     let budget = c.args.budget in
-    let proposes = IsProposed source (marks_of_lines c.args.plans.now) in
+    let lines = lines_said c.args.plans.now in
+    let proposes = IsProposed source (marks_of lines) in
     let planned = c.in_ok-planned.planned in
     let linked = planned.linked in
     let t = c.in_ok-planned.ensures.told in
@@ -20,6 +21,6 @@ returns-clause-planned g c =
       lines = planned.rejections.items;
       told = t.told;
       answers = c.in_ok-behind.ensures _ (report_of source linked requests bytes budget) c.in_ok-run.ensures;
-      runs = runs proposes source linked t.is requests bytes budget;
-      means = means proposes source linked t.is requests bytes budget c.link_told.ensures.source c.in_ok-planned.ensures.registers;
+      runs = runs proposes lines source linked t.is requests bytes budget;
+      means = means proposes lines source linked t.is requests bytes budget c.link_told.ensures.source c.in_ok-planned.ensures.registers;
     }

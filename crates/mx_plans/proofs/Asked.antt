@@ -23,3 +23,6 @@ err_asked n s o rule = by_fault (copy_fault n s o) refl
     by_fault : (f : Option CopyRule) → copy_fault n s o ≡ f → Err rule ≡ unless_forbidden f (copies_of n s o) → copy_fault n s o ≡ Some rule
     by_fault None e h = absurd (cc)
     by_fault (Some other) e h = cc
+
+pub none_asked : (n : ℕ) (s : Site) (o : Option Site) (c : Copied) → Ok c ≡ copies_asked n s o → copy_fault n s o ≡ None
+none_asked n s o c e = (ok_asked n s o c e).allowed

@@ -1,0 +1,4 @@
+pub mod Links
+pub mod Labels
+pub mod Refused
+pub mod Ran
