@@ -271,17 +271,19 @@ def check_callgrind(source, folder):
 
 def check_own(source, compared, schema, folder):
     """Compares columns of plan files: with the list scheduler's plans it is that scheduler's, and with a plan that is rejected the run's own."""
-    for name in ("same", "spoiled"):
+    lines = printed("plans", source, "--print").splitlines()
+    # (a no-op more than the padded plan has, or a third slot, breaks a rule)
+    files = {"same": lines, "spoiled": [f"{lines[0]} -", *lines[1:]], "plain": [f"{line} +0" for line in lines]}
+    for name, own_lines in files.items():
         with open(f"{folder}/{name}", "w", encoding="ascii") as file:
-            lines = printed("plans", source, "--print").splitlines()
-            # (a no-op more than the padded plan has, or a third slot, breaks a rule)
-            file.write("".join(f"{line}\n" for line in ([f"{lines[0]} -", *lines[1:]] if name == "spoiled" else lines)))
-    own = [word for name in ("same", "spoiled") for word in ("--plans", f"{name}={folder}/{name}")]
+            file.write("".join(f"{line}\n" for line in own_lines))
+    own = [word for name in files for word in ("--plans", f"{name}={folder}/{name}")]
     told = json.loads(printed("compare", source, *own, "--as", "json"))
     schema.validate(told)
     need(told["schedulers"][:4] == compared["schedulers"], "the schedulers beside plans of files")
-    same, spoiled = told["schedulers"][4:]
+    same, spoiled, plain = told["schedulers"][4:]
     need({**same, "plans": "copies"} == compared["schedulers"][2], "the plans of the list scheduler from a file")
+    need({**plain, "plans": "list"} == compared["schedulers"][1], "the same plans without copies")
     report = printed("plans", source, f"{folder}/spoiled").splitlines()
     rejections = [line for line in report if " rejected by " in line]
     counts = dict(line.split(" ", 1) for line in report if line.count(" ") == 1)

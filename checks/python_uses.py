@@ -58,6 +58,11 @@ def agrees(it, lab, name, source):
          f"{name}: a block ran as often as the line of its first statement was executed")
     need(all(row["words"] == sum(block.words[row["plans"]] for block in blocks) for row in lab.compare(source)),
          f"{name}: blocks and compare have the same words")
+    by_plans = {row["plans"]: row for row in lab.compare(source)}
+    need([lab.plans(source, lambda block: ["+0"]).run.cycles, lab.plans(source, lambda block: None).run.cycles]
+         == [by_plans["list"]["cycles"], by_plans["copies"]["cycles"]], f"{name}: the plans of the list scheduler without and with copies")
+    two = lab.plans(source, lambda block: ["+2"])
+    need(all(line.startswith("copies of plan ") for line in two.rejected) and two.run.halted, f"{name}: copies that are rejected")
     need(lab.explain(source)["verdict"] == it.explain(source).verdict, f"{name}: the verdict")
     need(len(lab.trace(source)) == run.counts["fetches"] + 2, f"{name}: records of the trace for the program, each turn and the end")
     drawing = lab.draw(source, cycles=20, interrupts=[3])
@@ -66,7 +71,7 @@ def agrees(it, lab, name, source):
 
 
 def schedulers(seed):
-    """Gives schedulers of all kinds: in the order of the source, backwards, shuffled, nonsense, and none."""
+    """Gives schedulers of all kinds: in the order of the source, backwards, shuffled, nonsense, copies, and none."""
     drawn = random.Random(seed)
 
     def shuffled(block):
@@ -79,6 +84,7 @@ def schedulers(seed):
         "backwards": lambda block: [*reversed(range(len(block.instructions) - block.ends)), *(["/"] * block.ends)],
         "shuffled": shuffled,
         "nothing but no-ops": lambda block: [None] * 5,
+        "copies chosen at random": lambda block: [f"+{drawn.randrange(3)}"],
         "none": lambda block: None,
     }
 

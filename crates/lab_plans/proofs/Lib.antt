@@ -3,3 +3,4 @@ pub mod Laid
 pub mod Listed
 pub mod Means
 pub mod Reported
+pub mod Told

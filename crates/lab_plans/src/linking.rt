@@ -23,7 +23,6 @@ pub struct LinkedTold {
 }
 
 /// Lays out a source at the board's place by the plans that the lines of a file say.
-#[tactic(auto, using(crate::proofs::Laid::proposals_count))]
 fn laid_by(alloc: Global, source: &Source, plans: &[PlanLine]) -> Result<Layout, LinkError>
     ensures source { IsSource source.now }
     ensures laid { IfOk result (IsLaidAt source.now board) }

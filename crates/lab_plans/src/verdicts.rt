@@ -1,9 +1,9 @@
 //! What is told of the plans and copies that are rejected.
-ghost use Rattle.std.specs.Prelude.{◌≡◌, ◌++◌, OnOk, IfOk, length, slice_index};
+ghost use Rattle.std.specs.Prelude.{◌≡◌, ◌≤◌, ◌++◌, OnOk, IfOk, length, slice_index};
 ghost use Rattle.mx_link.specs.Laid.{IsLaidAt};
 ghost use Rattle.mx_link.specs.Parts.{sites_of};
-ghost use Rattle.mx_plans.specs.Copies.{copy_verdicts};
 ghost use Rattle.lab_plans.specs.Terms.{board, lines_said};
+ghost use Rattle.lab_plans.specs.Copies.{copy_lines};
 ghost use Rattle.lab_plans.specs.Verdicts.{AreTold, AreVerdicts, rule_text, rejection_line, verdict_line, verdict_lines};
 
 use crate::copies::push_copy_lines;
@@ -108,18 +108,21 @@ fn verdict_lines(
     Ok(text)
 }
 
-/// The first rule that forbids the copies that each line of a file chooses, for a source that is laid out.
-#[tactic(auto, using(crate::proofs::Laid::ready))]
-fn copies_judged(
+/// The lines of the plans that break a rule, and then of the copies that a rule forbids.
+fn rejection_lines(
     alloc: Global,
-    source: &Source,
-    layout: &Layout,
-    plans: &[PlanLine],
-) -> Result<Vec<Option<CopyRule>>, AllocError>
-    requires { IsLaidAt source.now board layout.now }
-    ensures judged { let all = sites_of layout.now in IfOk result (λ verdicts. verdicts.items ≡ copy_verdicts all all (lines_said plans.now)) }
+    lines: &[u32],
+    blocks: &[Block],
+    verdicts: &[Option<Rule>],
+    copies: &[Option<CopyRule>],
+) -> Result<Vec<u8>, AllocError>
+    requires count { length verdicts.now ≡ length blocks.now }
+    requires few { length copies.now ≤ length blocks.now }
+    ensures { IfOk result (λ text. text.items ≡ verdict_lines lines.now 1 blocks.now verdicts.now ++ copy_lines lines.now 1 blocks.now copies.now) }
 {
-    copy_verdicts(alloc, layout, plans)
+    let mut text = verdict_lines(alloc, lines, blocks, verdicts)?;
+    push_copy_lines(alloc, &mut text, lines, blocks, copies)?;
+    Ok(text)
 }
 
 /// The lines of what is proposed for the blocks of a source that is laid out and breaks a rule, and then of the copies that the lines of
@@ -134,11 +137,15 @@ pub(crate) fn told(
     requires count { length layout.now.proposals.items ≡ length layout.now.blocks.items }
     ensures { IfOk result (λ text. AreTold source.now (sites_of layout.now) layout.now.proposals.items (lines_said plans.now) text.items) }
 {
-    let lines = source.lines();
     let blocks = layout.blocks.as_slice();
     let verdicts = verdicts_of(alloc, blocks, layout.proposals.as_slice())?;
-    let copies = copies_judged(alloc, source, layout, plans)?;
-    let mut text = verdict_lines(alloc, lines, blocks, verdicts.as_slice())?;
-    push_copy_lines(alloc, &mut text, lines, blocks, copies.as_slice())?;
+    let copies = copy_verdicts(alloc, layout, plans)?;
+    let text = rejection_lines(
+        alloc,
+        source.lines(),
+        blocks,
+        verdicts.as_slice(),
+        copies.as_slice(),
+    )?;
     Ok(text)
 }

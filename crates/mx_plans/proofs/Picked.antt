@@ -1,5 +1,5 @@
 -- Choices and verdicts, one line after the other; and the items of lines.
-use Rattle.std.proofs.Common.{◌≡◌, ℕ, zero, suc, ◌+◌, ◌≤◌, min, List, [], ◌∷◌, ◌++◌, length, drop, map, append_assoc, append_nil, Option, Some, refl, ap, sym, subst, ◌∙◌, arith}
+use Rattle.std.proofs.Common.{◌≡◌, ℕ, zero, suc, ◌+◌, ◌≤◌, min, List, [], ◌∷◌, ◌++◌, length, drop, append_assoc, append-nil, Option, Some, refl, ap, sym, subst, ◌∙◌, arith}
 use Rattle.std.specs.Prelude.{slice_get}
 use Rattle.std.proofs.lemmas.Bool.Decides.{nat_tests}
 use Rattle.std.proofs.lemmas.Option.{none-some, same_Some}
@@ -32,7 +32,7 @@ pub choices_end :
     (blocks : List Block) (lines : List PlanLine) (k : ℕ) (done : List (Option ℕ)) → min (length blocks) (length lines) ≤ k
     → done ++ choices_of (drop k blocks) (lines_said (drop k lines)) ≡ choices_of blocks (lines_said lines) → done ≡ choices_of blocks (lines_said lines)
 choices_end blocks lines k done few h =
-    sym (append_nil done) ∙ ap (λ (l : List (Option ℕ)). done ++ l) (sym (choices_left blocks lines k few)) ∙ h
+    sym (append-nil done) ∙ ap (λ (l : List (Option ℕ)). done ++ l) (sym (choices_left blocks lines k few)) ∙ h
 
 no_more : (all sites : List Site) → copy_verdicts all sites [] ≡ []
 no_more all [] = refl
@@ -53,7 +53,7 @@ pub verdicts_end :
     → done ++ copy_verdicts all (drop k all) (lines_said (drop k lines)) ≡ copy_verdicts all all (lines_said lines)
     → done ≡ copy_verdicts all all (lines_said lines)
 verdicts_end all lines k done few h =
-    sym (append_nil done) ∙ ap (λ (l : List (Option CopyRule)). done ++ l) (sym (verdicts_left all all lines k few)) ∙ h
+    sym (append-nil done) ∙ ap (λ (l : List (Option CopyRule)). done ++ l) (sym (verdicts_left all all lines k few)) ∙ h
 
 verdicts_next :
     (all sites : List Site) (lines : List PlanLine) (k : ℕ) (s : Site) (l : PlanLine) → slice_get sites k ≡ Some s → slice_get lines k ≡ Some l

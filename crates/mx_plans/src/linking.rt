@@ -94,6 +94,7 @@ pub fn link_lines(
     ensures registers { OnOk result (HaveRegisters source.now.statements) }
     ensures linked { IfOk result (IsLinkedFrom (as_planned (lines_said lines.now)) source.now place layout) }
 {
+    let _statements = source.statements();
     let choices = choices_of(alloc, layout.blocks.as_slice(), lines)?;
     link_laid(
         alloc,

@@ -1,6 +1,6 @@
-use Rattle.std.proofs.Common.{◌<◌, length, refl, arith}
+use Rattle.std.proofs.Common.{◌<◌, length, slice_index_or, arith}
 use Rattle.std.proofs.lemmas.Bool.Decides.{nat_tests}
-use Rattle.std.proofs.lemmas.Option.{slice_get_read}
+use Rattle.std.proofs.lemmas.Option.{slice_get-get_or}
 use Rattle.mx_link.specs.Parts.{sites_of}
 use Rattle.mx_plans.proofs.Picked.{verdict_pushed, verdicts_end}
 use Rattle.mx_plans.proofs.Sites.{site_there, site_count}
@@ -15,8 +15,9 @@ loop-k-preserved c =
     let within : c.loop-k.k < length l.blocks.items = grind (arith, nat_tests) in
     let low : c.loop-k.k < length c.args.lines.now = grind (arith, nat_tests) in
     let there = site_there l.blocks.items l.plans.items l.starts.items c.requires.plans c.requires.starts c.loop-k.k within in
-    verdict_pushed all c.args.lines.now c.loop-k.k there.site c.index-lines-k.result c.loop-k.verdicts.items _ c.verdict_on.result there.is
-    (slice_get_read c.args.lines.now _ c.loop-k.k c.index-lines-k.result refl low c.index-lines-k.is)
+    verdict_pushed all c.args.lines.now c.loop-k.k there.site (slice_index_or c.args.lines.now c.loop-k.k c.index-lines-k.result)
+    c.loop-k.verdicts.items _ c.verdict_on.result there.is
+    (slice_get-get_or c.args.lines.now c.loop-k.k c.index-lines-k.result low)
     c.in_ok-push.ensures.items (c.verdict_on.ensures there.site there.is) c.loop-k.invariant
 
 pub returns : goal.returns
