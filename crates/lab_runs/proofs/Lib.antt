@@ -1,4 +1,4 @@
 pub mod Links
 pub mod Labels
-pub mod Refused
+pub mod TooFar
 pub mod Ran

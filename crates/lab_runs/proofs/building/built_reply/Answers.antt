@@ -5,7 +5,7 @@ use Rattle.mx_image.specs.Contents.{LinksFit}
 use Rattle.mx_plans.specs.Files.{lines_said}
 use Rattle.mx_plans.specs.Copies.{as_planned}
 use Rattle.lab_runs.proofs.Links.{links_fit}
-use Rattle.lab_runs.proofs.Refused.{too_far}
+use Rattle.lab_runs.proofs.TooFar.{too_far}
 use Rattle.lab_runs.proofs.building.built_reply.Goals as goal
 
 pub written-requires : goal.written-requires

@@ -1,5 +1,5 @@
 use Rattle.mx_plans.specs.Files.{lines_said}
-use Rattle.lab_runs.proofs.Refused.{too_far}
+use Rattle.lab_runs.proofs.TooFar.{too_far}
 use Rattle.lab_runs.proofs.debugging.plain_linked.Goals as goal
 
 pub returns-in-Err-clause-refused : goal.returns-in-Err-clause-refused
