@@ -273,6 +273,7 @@ def values_of(told):
         "interrupts": ([[], [0, most], list(range(count))], [[5, 5], [6, 5], [-1], [most + 1], [1.0], "1", list(range(count + 1))]),
         "input": (["", "\u00e4", [], [0, 255], "a" * longest], [[256], [-1], [""], 1, "a" * (longest + 1)]),
         "as": (told["as"]["enum"], ["png", "", 1, ["svg"]]),
+        "plans": (["", "/\n", "\u00e4", "a" * told["plans"]["maxLength"]], [1, None, ["/"], "a" * (told["plans"]["maxLength"] + 1)]),
         **{name: ([it["minimum"], it["maximum"]], [it["minimum"] - 1, it["maximum"] + 1, 1.5, "1", True, None]) for name, it in numbers.items()},
     }
 
