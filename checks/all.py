@@ -112,6 +112,7 @@ CHECKS = (
     Check("workbench's faults", ("serve_faults.py",), ("mx_run", "mx_serve", "mx_cc"), is_alone=True),
     Check("clients", ("clients.py",), ("mx_run", "mx_serve", "mx_cc"), 15, is_alone=True),
     Check("workbench", ("serve.py",), PROGRAMS, 20, is_alone=True, tools=("chromium",)),
+    Check("panels", ("panels.py",), PROGRAMS, 20, is_alone=True, tools=("chromium",)),
 )
 
 

@@ -273,6 +273,7 @@ def values_of(told):
         "interrupts": ([[], [0, most], list(range(count))], [[5, 5], [6, 5], [-1], [most + 1], [1.0], "1", list(range(count + 1))]),
         "input": (["", "\u00e4", [], [0, 255], "a" * longest], [[256], [-1], [""], 1, "a" * (longest + 1)]),
         "as": (told["as"]["enum"], ["png", "", 1, ["svg"]]),
+        "plans": (["", "/\n", "\u00e4", "a" * told["plans"]["maxLength"]], [1, None, ["/"], "a" * (told["plans"]["maxLength"] + 1)]),
         **{name: ([it["minimum"], it["maximum"]], [it["minimum"] - 1, it["maximum"] + 1, 1.5, "1", True, None]) for name, it in numbers.items()},
     }
 
@@ -291,7 +292,7 @@ def try_schema(client):
     with open(f"{TOP}/docs/serve.schema.json", encoding="utf-8") as it:
         told = json.load(it)["$defs"]
     values = values_of(told["fields"])
-    commands = ("check", "run", "explain", "draw", "profile", "compare", "disassemble")
+    commands = ("check", "run", "explain", "draw", "profile", "compare", "disassemble", "blocks", "plans", "caches", "interrupts")
     wrong = [it for command in commands for it in wrong_answers(client, command, told[command]["properties"], values)]
     tell("each command has the fields of the schema, with their ranges", not wrong, wrong[:10])
     tell("each answer is one that it has", all(set(it) <= set(told["answer"]["properties"]) for it in ANSWERS), ANSWERS)

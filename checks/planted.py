@@ -81,6 +81,25 @@ PAGE_FAULTS = (
     ("try_looks", "s/--soft: #575757/--soft: #a0a0a0/", "contrast is at least 4.5 in serve-390-light"),
 )
 PLANTED_PAGE = "\n".join(f"plant tools/serve/page.html {shlex.quote(it)}" for _, it, _ in PAGE_FAULTS)
+# The same for panels.py.
+PANEL_FAULTS = (
+    ("try_plan", "s/rejected by ${why}; its block/is another one, its block/", "the panel says what plans prints of '/ 0 1 -'"),
+    ("try_plan", "s/const body = runSettings(), behind = /const body = settings(), behind = /", "the listing is the plan's"),
+    ("try_plan", "s/'slot ' + (k - last)/'slot ' + (k - last + 1)/", "it says which slots these are"),
+    ("try_kept_plans", "s/if (textsOf(before\\[k\\]) !== textsOf(planning.blocks\\[k\\]))/if (false)/", "after a change of its own it is the list scheduler's"),
+    ("try_kept_plans", "s/^  find('planned').classList.add('old');$//", "with a fault the panel is grey and names its line"),
+    ("try_plan_speed", "s/^const askPlanned = async signal => {$/&\\n  await new Promise(done => setTimeout(done, 400));/",
+     "the cycles of a changed plan are there after"),
+    ("try_caches", "s/bottom - (bottom - top) \\* (n - least)/top + (bottom - top) * (n - least)/", "more misses are higher in the chart"),
+    ("try_caches", "s/it.shipped ? '\\* the machine/it.words === 256 ? '* the machine/", "the machine's own has a star"),
+    ("try_sweep", "s/row.interrupt ? row.interrupt.taken : row.requests/row.interrupt ? row.interrupt.handler : row.requests/", "Enter shows the run of the row"),
+    ("try_sweep", "s/^  const isOld = swept.key !== sweptKey();/  const isOld = false;/", "after a change of the program it is grey"),
+    ("try_predict", "s/cellsOf(range, row).filter((\\[j\\]) => row.begins + j <= front)/cellsOf(range, row)/", "each cycle is hidden, then shown"),
+    ("try_predict", "s/within(cycle, 0, Math.min(last, frontCycle()))/within(cycle, 0, last)/", "no key goes further"),
+    ("try_predict", "s/^  predicted.right += right;/  predicted.right += right + 1;/", "what was right is counted"),
+    ("try_panels_look", "s/--warning: #855000/--warning: #e0a000/", "contrast is at least 4.5 in predicting, 390 light"),
+)
+PLANTED_PANELS = "\n".join(f"plant tools/serve/page.html {shlex.quote(it)}" for _, it, _ in PANEL_FAULTS)
 CASES = (
     Case("deps", "deps.py", "a library that no file names", "plant crates.txt 's/^mx_code: mx_isa$/& memchr/'; checks/deps.py",
          ("mx_code lists memchr, which no file of it names",)),
@@ -202,6 +221,8 @@ CASES = (
           "FAILED: a request that was begun before keeps its connection", "FAILED: of 16 runs at most", "FAILED: refused: int a = 1'0")),
     Case("workbench", "serve.py", "another picture than the page's", """
         fake "$MX_LAB" 's/ALU/MEM/g'; MX_LAB=$fake checks/serve.py "$work" try_cycles_and_end""", ("FAILED: the cells of cycle",)),
+    Case("panels", "panels.py", "an argument", "checks/panels.py . typo", ("unknown part typo",)),
+    Case("panels", "panels.py", "faults of each panel", PLANTED_PANELS + "\n        MX_TIMES=yes checks/panels.py", tuple(f"^FAILED: {re.escape(it)}" for _, _, it in PANEL_FAULTS)),
     Case("workbench", "serve.py", "an argument", "checks/serve.py . typo", ("unknown part typo",)),
     Case("workbench", "serve.py", "a fault of the page for each part", PLANTED_PAGE + """
         head -c 400000 /dev/zero | tr '\\0' ' ' >>tools/serve/page.html

@@ -12,6 +12,7 @@ mkdir -p "$folder" || exit 1
 export PYTHONDONTWRITEBYTECODE=1
 failed=0
 "$top/checks/serve.py" "$folder" || failed=1
+"$top/checks/panels.py" "$folder" || failed=1
 "$top/checks/serve_faults.py" || failed=1
 "$top/checks/clients.py" "${2-10000}" || failed=1
 echo "pictures in $folder"

@@ -197,13 +197,13 @@ def compare_requests(rows, lab):
     served = re.search(r"^COMMANDS = \((.*?)\)", text_of("tools/serve/programs.py"), re.M)
     tell("requests: the server has the same commands", served is not None and re.findall(r'"(\w+)"', served[1]) == answered, str(answered))
     known = constants(checks)
-    ranges = {field.lower(): (number(least), known[most]) for field, least, most in
-              re.findall(r"Field::(\w+) => number_fault\(value, (\d+), (\w+)\)", checks)}
-    # the range of a field is that of the option of the command that has it: draw's, and of run what draw has not
+    ranges = {field.lower(): (number(least), known[most]) for fields, least, most in
+              re.findall(r"((?:Field::\w+ \| )*Field::\w+) => number_fault\(value, (\d+), (\w+)\)", checks) for field in re.findall(r"::(\w+)", fields)}
+    # the range of a field is that of the option of the command that has it: the first of these
     for field, (least, most) in ranges.items():
-        value = lab["draw"][2].get(field) or rows["run"][2].get(field)
+        value = next((it[field] for it in (lab["draw"][2], rows["run"][2], lab["caches"][2], lab["interrupts"][2]) if it.get(field)), None)
         tell(f"requests: the range of {field}", value is not None and tuple(value[1:]) == (least, most), f"{least} to {most} is not {value}")
-    tell("requests: ranges were found", len(ranges) >= 6, str(sorted(ranges)))
+    tell("requests: ranges were found", len(ranges) >= 11, str(sorted(ranges)))
     budget = re.search(r'<input id="budget" type="number" min="(\d+)" max="(\d+)" value="(\d+)"', text_of("tools/serve/page.html"))
     default, least, most = lab["draw"][2]["budget"]
     tell("page: the budget", budget is not None and [int(it) for it in budget.groups()] == [least, most, default], str(budget and budget.groups()))

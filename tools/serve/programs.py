@@ -13,7 +13,7 @@ import slots
 from fields import Refused
 
 # What the program answers, from the bytes of a body to those of an answer (crates/lab_request).
-COMMANDS = ("check", "run", "explain", "draw", "profile", "compare", "disassemble")
+COMMANDS = ("check", "run", "explain", "draw", "profile", "compare", "disassemble", "blocks", "plans", "caches", "interrupts")
 # Its exit status where it answers, where it refuses, and where it gets no more memory.
 ANSWERED, REFUSED, NO_MEMORY = 0, 1, 6
 SECONDS = 60

@@ -4,3 +4,4 @@ pub mod Listed
 pub mod Means
 pub mod Reported
 pub mod Told
+pub mod Ends

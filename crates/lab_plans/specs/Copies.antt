@@ -1,10 +1,9 @@
 -- What is told of chosen copies that a rule forbids: a line each.
 use Rattle.std.specs.Prelude.{ℕ, suc, List, [], ◌∷◌, ◌++◌, codes, slice_index, Option, Some, None}
-use Rattle.std.specs.Fmt.{decimal}
-use Rattle.mx_text.specs.Text.{line}
 use Rattle.mx_blocks.specs.declared.Block.{Block}
 use Rattle.mx_squash.specs.declared.CopyRule.{CopyRule}
 use Rattle.mx_squash.specs.declared.CopyRule.TheVariants.{Target, Room, Front, Reach, Load}
+use Rattle.lab_plans.specs.Rejections.{rejected_line}
 
 -- the name of a rule, and what it asks for
 abbrev pub copy_rule_text : CopyRule → List ℕ
@@ -14,10 +13,9 @@ copy_rule_text Front = codes "Front: the target's plan begins with so many instr
 copy_rule_text Reach = codes "Reach: the branch reaches the word after the copied ones"
 copy_rule_text Load = codes "Load: the copied word does not read the register of a load in slot 1"
 
--- the line of copies that are rejected: their line in the file, the line on which their block begins in the source, and the rule
+-- the line of copies that are rejected
 abbrev pub copy_rejection : ℕ → ℕ → CopyRule → List ℕ
-copy_rejection number at rule =
-    ((((codes "copies of plan " ++ decimal number) ++ codes " (line ") ++ decimal at) ++ codes ") rejected by ") ++ line (copy_rule_text rule)
+copy_rejection number at rule = codes "copies of " ++ rejected_line number at (copy_rule_text rule)
 
 abbrev pub copy_line : ℕ → ℕ → Option CopyRule → List ℕ
 copy_line number at None = []

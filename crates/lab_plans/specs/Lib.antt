@@ -1,4 +1,5 @@
 pub mod Terms
+pub mod Rejections
 pub mod Copies
 pub mod Verdicts
 pub mod Linking

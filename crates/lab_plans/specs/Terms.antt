@@ -4,6 +4,6 @@ pub use Rattle.mx_layout.specs.Overlong.{IsRefusal}
 pub use Rattle.mx_link.specs.Linked.{IsLinked}
 pub use Rattle.mx_link.specs.Parts.{HaveRegisters}
 pub use Rattle.mx_isa.specs.Board.{board}
-pub use Rattle.mx_plans.specs.Files.{LineSaid, lines_said, marks_of}
+pub use Rattle.mx_plans.specs.Files.{LineSaid, lines_said, marks_of, marks_of_lines}
 pub use Rattle.mx_plans.specs.Says.{IsProposed}
 pub use Rattle.mx_plans.specs.Copies.{as_planned}

@@ -1,8 +1,6 @@
 -- What is told of plans that break a rule of valid plans: a line each, and then one for each choice of copies that a rule forbids.
 use Rattle.std.specs.Prelude.{◌≡◌, ℕ, suc, List, [], ◌∷◌, ◌++◌, codes, slice_index, Option, Some, None}
-use Rattle.std.specs.Fmt.{decimal}
 use Rattle.mx_source.specs.SourceValue.{SourceValue}
-use Rattle.mx_text.specs.Text.{line}
 use Rattle.mx_blocks.specs.declared.Block.{Block}
 use Rattle.mx_blocks.specs.declared.Plan.{Plan}
 use Rattle.mx_plans.specs.declared.Rule.{Rule}
@@ -12,6 +10,7 @@ use Rattle.mx_plans.specs.Files.{LineSaid}
 use Rattle.mx_squash.specs.Copies.{Site}
 use Rattle.mx_layout.specs.Layout.{blocks_in}
 use Rattle.mx_plans.specs.Copies.{copy_verdicts}
+use Rattle.lab_plans.specs.Rejections.{rejected_line}
 use Rattle.lab_plans.specs.Copies.{copy_lines}
 
 -- the first rule that each plan of a block breaks, if it breaks one
@@ -30,10 +29,9 @@ rule_text Delay = codes "Delay: no load is directly followed by a reader of its 
 rule_text LastLoad = codes "LastLoad: the last item is no load"
 rule_text Room = codes "Room: at most as many items come before the / as in the padded plan"
 
--- the line of a rejected plan: its line in the file, the line on which its block begins in the source, and the rule
+-- the line of a plan that is rejected
 abbrev pub rejection_line : ℕ → ℕ → Rule → List ℕ
-rejection_line number at rule =
-    ((((codes "plan " ++ decimal number) ++ codes " (line ") ++ decimal at) ++ codes ") rejected by ") ++ line (rule_text rule)
+rejection_line number at rule = rejected_line number at (rule_text rule)
 
 abbrev pub verdict_line : ℕ → ℕ → Option Rule → List ℕ
 verdict_line number at None = []

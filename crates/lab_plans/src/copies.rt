@@ -2,10 +2,9 @@
 ghost use Rattle.std.specs.Prelude.{◌≡◌, ◌≤◌, ◌++◌, OnOk, length};
 ghost use Rattle.lab_plans.specs.Copies.{copy_rule_text, copy_rejection, copy_line, copy_lines};
 
-use crate::verdicts::number_at;
+use crate::rejections::{number_at, push_rejected};
 use mx_blocks::Block;
 use mx_squash::CopyRule;
-use mx_text::{push_decimal, push_line};
 use std::alloc::{AllocError, Global};
 
 /// The name of a rule of copies, and what it asks for.
@@ -35,12 +34,8 @@ fn push_rejection(
 ) -> Result<(), AllocError>
     ensures { OnOk result (text.new.items ≡ text.old.items ++ copy_rejection number line rule) }
 {
-    text.extend_from_slice(b"copies of plan ")?;
-    push_decimal(alloc, text, number as u64)?;
-    text.extend_from_slice(b" (line ")?;
-    push_decimal(alloc, text, u64::from(line))?;
-    text.extend_from_slice(b") rejected by ")?;
-    push_line(text, copy_rule_text(rule))
+    text.extend_from_slice(b"copies of ")?;
+    push_rejected(alloc, text, number, line, copy_rule_text(rule))
 }
 
 /// Appends the line of copies, if a rule forbids them.

@@ -5,6 +5,7 @@ mod copies;
 mod figures;
 mod linking;
 mod planned;
+mod rejections;
 mod verdicts;
 
 pub use figures::{PlannedFigures, figures_by_plans};

@@ -1,5 +1,5 @@
 //! What is told of the plans and copies that are rejected.
-ghost use Rattle.std.specs.Prelude.{◌≡◌, ◌≤◌, ◌++◌, OnOk, IfOk, length, slice_index};
+ghost use Rattle.std.specs.Prelude.{◌≡◌, ◌≤◌, ◌++◌, OnOk, IfOk, length};
 ghost use Rattle.mx_link.specs.Laid.{IsLaidAt};
 ghost use Rattle.mx_link.specs.Parts.{sites_of};
 ghost use Rattle.lab_plans.specs.Terms.{board, lines_said};
@@ -7,12 +7,12 @@ ghost use Rattle.lab_plans.specs.Copies.{copy_lines};
 ghost use Rattle.lab_plans.specs.Verdicts.{AreTold, AreVerdicts, rule_text, rejection_line, verdict_line, verdict_lines};
 
 use crate::copies::push_copy_lines;
+use crate::rejections::{number_at, push_rejected};
 use mx_blocks::{Block, Plan};
 use mx_layout::Layout;
 use mx_plans::{PlanLine, Rule, copy_verdicts, first_broken_rule};
 use mx_source::Source;
 use mx_squash::CopyRule;
-use mx_text::{push_decimal, push_line};
 use std::alloc::{AllocError, Global};
 
 /// The name of a rule, and what it asks for.
@@ -40,12 +40,7 @@ fn push_rejection(
 ) -> Result<(), AllocError>
     ensures { OnOk result (text.new.items ≡ text.old.items ++ rejection_line number line rule) }
 {
-    text.extend_from_slice(b"plan ")?;
-    push_decimal(alloc, text, number as u64)?;
-    text.extend_from_slice(b" (line ")?;
-    push_decimal(alloc, text, u64::from(line))?;
-    text.extend_from_slice(b") rejected by ")?;
-    push_line(text, rule_text(rule))
+    push_rejected(alloc, text, number, line, rule_text(rule))
 }
 
 /// Appends the line of a plan, if there is one.
@@ -61,16 +56,6 @@ fn push_verdict(
     match verdict {
         Some(rule) => push_rejection(alloc, text, number, line, rule),
         None => Ok(()),
-    }
-}
-
-/// A number of a list, 0 past its end.
-pub(crate) fn number_at(numbers: &[u32], index: u32) -> u32
-    ensures { result ≡ slice_index numbers.now index }
-{
-    match numbers.get(index as usize) {
-        Some(number) => *number,
-        None => 0,
     }
 }
 

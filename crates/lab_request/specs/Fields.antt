@@ -7,9 +7,9 @@ use Rattle.std.specs.Str.{bytes_eq}
 use Rattle.serde_json.specs.Data.{Data, string, array, Items, no_items, item, Members, no_members, member}
 use Rattle.serde_json.specs.Find.{get, as_number, as_str, as_array, as_u64}
 use Rattle.lab_request.specs.declared.command.Command.{Command}
-use Rattle.lab_request.specs.declared.command.Command.TheVariants.{Check, Run, Explain, Draw, Profile, Compare, Disassemble}
+use Rattle.lab_request.specs.declared.command.Command.TheVariants.{Check, Run, Explain, Draw, Profile, Compare, Disassemble, Blocks, Planned, Caches, Sweep}
 use Rattle.lab_request.specs.declared.field.Field.{Field}
-use Rattle.lab_request.specs.declared.field.Field.TheVariants.{Source, Name, Interrupts, Input, Budget, From, Cycles, Trace, Dump, Count, Form, Scheduler}
+use Rattle.lab_request.specs.declared.field.Field.TheVariants.{Source, Name, Interrupts, Input, Budget, From, Cycles, Trace, Dump, Count, Form, Scheduler, Plans, PlanFile, To, Step, Line, Brings, Penalty}
 use Rattle.lab_request.specs.declared.fault.Fault.{Fault}
 use Rattle.lab_request.specs.declared.fault.Fault.TheVariants.{LeftOut, NoString, NoName, NoCycles, NoBytes, TooLong, NoForm, NoScheduler, NoNumber}
 use Rattle.lab_request.specs.declared.fault.Wrong.{Wrong}
@@ -23,15 +23,19 @@ command_name Draw = codes "draw"
 command_name Profile = codes "profile"
 command_name Compare = codes "compare"
 command_name Disassemble = codes "disassemble"
+command_name Blocks = codes "blocks"
+command_name Planned = codes "plans"
+command_name Caches = codes "caches"
+command_name Sweep = codes "interrupts"
 
 abbrev pub commands : List Command
-commands = Check ∷ Run ∷ Explain ∷ Draw ∷ Profile ∷ Compare ∷ Disassemble ∷ []
+commands = Check ∷ Run ∷ Explain ∷ Draw ∷ Profile ∷ Compare ∷ Disassemble ∷ Blocks ∷ Planned ∷ Caches ∷ Sweep ∷ []
 
 -- the command of a name
 abbrev pub command_named : List ℕ → Option Command
 command_named word = find (λ c. bytes_eq (command_name c) word) commands
 
--- the name of a field in a body
+-- the name of a field in a body: a plan file has the same one where it is an option and where it is an argument by itself
 abbrev pub field_name : Field → List ℕ
 field_name Source = codes "source"
 field_name Name = codes "name"
@@ -45,16 +49,27 @@ field_name Dump = codes "dump"
 field_name Count = codes "count"
 field_name Form = codes "as"
 field_name Scheduler = codes "scheduler"
+field_name Plans = codes "plans"
+field_name PlanFile = codes "plans"
+field_name To = codes "to"
+field_name Step = codes "step"
+field_name Line = codes "line"
+field_name Brings = codes "brings"
+field_name Penalty = codes "penalty"
 
 -- the fields that a command's body may have, in their order
 abbrev pub fields_of : Command → List Field
 fields_of Check = Source ∷ Name ∷ []
 fields_of Run = Source ∷ Name ∷ Interrupts ∷ Input ∷ Budget ∷ Trace ∷ Dump ∷ Count ∷ []
 fields_of Explain = Source ∷ Name ∷ Interrupts ∷ Input ∷ Budget ∷ []
-fields_of Draw = Source ∷ Name ∷ Interrupts ∷ Input ∷ Budget ∷ From ∷ Cycles ∷ Form ∷ Scheduler ∷ []
-fields_of Profile = Source ∷ Name ∷ Interrupts ∷ Input ∷ Budget ∷ []
+fields_of Draw = Source ∷ Name ∷ Interrupts ∷ Input ∷ Budget ∷ From ∷ Cycles ∷ Form ∷ Scheduler ∷ Plans ∷ []
+fields_of Profile = Source ∷ Name ∷ Interrupts ∷ Input ∷ Budget ∷ Plans ∷ []
 fields_of Compare = Source ∷ Name ∷ Interrupts ∷ Input ∷ Budget ∷ []
 fields_of Disassemble = Source ∷ Name ∷ []
+fields_of Blocks = Source ∷ Name ∷ []
+fields_of Planned = Source ∷ Name ∷ PlanFile ∷ Interrupts ∷ Input ∷ Budget ∷ []
+fields_of Caches = Source ∷ Name ∷ Input ∷ Budget ∷ Line ∷ Brings ∷ Penalty ∷ Plans ∷ []
+fields_of Sweep = Source ∷ Name ∷ Input ∷ Budget ∷ From ∷ To ∷ Step ∷ Plans ∷ []
 
 -- ---- values
 
@@ -135,6 +150,11 @@ input_fault _ = Some NoBytes
 abbrev pub number_fault : ℕ → ℕ → Data → Option Fault
 number_fault least most d = unless (is_within least most d) (NoNumber least most)
 
+-- what is wrong with a plan file
+abbrev pub plans_fault : Option (List ℕ) → Option Fault
+plans_fault None = Some NoString
+plans_fault (Some s) = unless (nat_le (length s) 1048576) TooLong
+
 -- what is wrong with the value of a field
 abbrev pub fault_in : Field → Data → Option Fault
 fault_in Source d = unless (is_some (as_str d)) NoString
@@ -149,6 +169,13 @@ fault_in Dump d = number_fault 0 65535 d
 fault_in Count d = number_fault 1 65536 d
 fault_in Form d = unless (is_text is_form d) NoForm
 fault_in Scheduler d = unless (is_text is_scheduler d) NoScheduler
+fault_in Plans d = plans_fault (as_str d)
+fault_in PlanFile d = plans_fault (as_str d)
+fault_in To d = number_fault 0 100000000 d
+fault_in Step d = number_fault 1 100000000 d
+fault_in Line d = number_fault 1 64 d
+fault_in Brings d = number_fault 1 64 d
+fault_in Penalty d = number_fault 0 1000 d
 
 -- only the source has to be there
 abbrev pub fault_without : Field → Option Fault

@@ -5,17 +5,20 @@ use Rattle.std.specs.Str.{bytes_eq}
 use Rattle.serde_json.specs.Data.{Data, string, array}
 use Rattle.serde_json.specs.Find.{get, as_str, as_array}
 use Rattle.lab_request.specs.declared.command.Command.{Command}
-use Rattle.lab_request.specs.declared.command.Command.TheVariants.{Check, Run, Explain, Draw, Profile, Compare, Disassemble}
+use Rattle.lab_request.specs.declared.command.Command.TheVariants.{Check, Run, Explain, Draw, Profile, Compare, Disassemble, Blocks, Planned, Caches, Sweep}
 use Rattle.lab_request.specs.declared.field.Field.{Field}
-use Rattle.lab_request.specs.declared.field.Field.TheVariants.{Source, Name, Interrupts, Input, Budget, From, Cycles, Trace, Dump, Count, Form, Scheduler}
+use Rattle.lab_request.specs.declared.field.Field.TheVariants.{Source, Name, Interrupts, Input, Budget, From, Cycles, Trace, Dump, Count, Form, Scheduler, Plans, PlanFile, To, Step, Line, Brings, Penalty}
 use Rattle.lab_request.specs.Fields.{command_name, field_name, fields_of, listed, number_in}
 
--- the names of the two files beside the source, which no source can have
+-- the names of the files beside the source, which no source can have
 abbrev pub interrupts_file : List ℕ
 interrupts_file = codes ".interrupts"
 
 abbrev pub input_file : List ℕ
 input_file = codes ".input"
+
+abbrev pub plans_file : List ℕ
+plans_file = codes ".plans"
 
 -- what the source is called
 abbrev pub name_in : Data → List ℕ
@@ -23,7 +26,7 @@ name_in d = unwrap_or (option_and_then as_str (get (codes "name") d)) (codes "so
 
 -- ---- the words
 
--- the value of the option that a field is; none where it is no option, or is left out
+-- the value of the option that a field is; none where it is no option, or is left out. Without a plan file `plans` prints one
 abbrev pub option_value : Field → Option Data → Option (List ℕ)
 option_value Source given = None
 option_value Name given = None
@@ -37,11 +40,23 @@ option_value Dump given = option_map (λ d. decimal (number_in d)) given
 option_value Count given = option_map (λ d. decimal (number_in d)) given
 option_value Form given = Some (unwrap_or (option_and_then as_str given) (codes "json"))
 option_value Scheduler given = option_and_then as_str given
+option_value Plans given = option_map (λ d. plans_file) given
+option_value PlanFile given = Some (unwrap_or (option_map (λ d. plans_file) given) (codes "--print"))
+option_value To given = option_map (λ d. decimal (number_in d)) given
+option_value Step given = option_map (λ d. decimal (number_in d)) given
+option_value Line given = option_map (λ d. decimal (number_in d)) given
+option_value Brings given = option_map (λ d. decimal (number_in d)) given
+option_value Penalty given = option_map (λ d. decimal (number_in d)) given
+
+-- the option before a value; a plan file may be an argument by itself
+abbrev pub option_name : Field → List (List ℕ)
+option_name PlanFile = []
+option_name field = (codes "--" ++ field_name field) ∷ []
 
 -- an option and its value
 abbrev pub option_words : Field → Option (List ℕ) → List (List ℕ)
 option_words field None = []
-option_words field (Some value) = (codes "--" ++ field_name field) ∷ value ∷ []
+option_words field (Some value) = option_name field ++ value ∷ []
 
 -- what a command of the laboratory is asked for beside its options: JSON, and of `check` all of it
 abbrev pub last_words : Command → List (List ℕ)
@@ -52,6 +67,10 @@ last_words Draw = []
 last_words Profile = codes "--as" ∷ codes "json" ∷ []
 last_words Compare = codes "--as" ∷ codes "json" ∷ []
 last_words Disassemble = codes "--as" ∷ codes "json" ∷ []
+last_words Blocks = codes "--as" ∷ codes "json" ∷ []
+last_words Planned = []
+last_words Caches = codes "--as" ∷ codes "json" ∷ []
+last_words Sweep = codes "--as" ∷ codes "json" ∷ []
 
 -- the options of the fields, in their order
 abbrev pub options_in : List Field → Data → List (List ℕ)
@@ -86,6 +105,9 @@ bytes_in _ = []
 abbrev pub input_in : Data → Option (List ℕ)
 input_in d = option_map bytes_in (get (codes "input") d)
 
+abbrev pub plans_in : Data → Option (List ℕ)
+plans_in d = option_and_then as_str (get (codes "plans") d)
+
 -- what each name holds
 abbrev pub Held : Type 0
 Held = List ℕ → Option (List ℕ)
@@ -97,4 +119,6 @@ with_file at (Some bytes) held name = if bytes_eq at name then Some bytes else h
 
 -- the files of the words: the source, and those that are given
 abbrev pub held_of : Data → Held
-held_of d = with_file (name_in d) (Some (source_in d)) (with_file interrupts_file (interrupts_in d) (with_file input_file (input_in d) (λ name. None)))
+held_of d =
+    with_file (name_in d) (Some (source_in d)) (with_file interrupts_file (interrupts_in d)
+    (with_file input_file (input_in d) (with_file plans_file (plans_in d) (λ name. None))))

@@ -1,8 +1,8 @@
 //! What is wrong with the value of a field. Nothing here takes memory.
 ghost use Rattle.std.specs.Prelude.{◌≡◌, option_map, map, nat_le};
 ghost use Rattle.serde_json.specs.View.{view};
-ghost use Rattle.serde_json.specs.Find.{as_array};
-ghost use Rattle.lab_request.specs.Fields.{listed, unless, number_fault, is_requests, list_fault, input_fault, fault_in, fault_without, fault_of};
+ghost use Rattle.serde_json.specs.Find.{as_array, as_str};
+ghost use Rattle.lab_request.specs.Fields.{listed, unless, number_fault, is_requests, list_fault, input_fault, plans_fault, fault_in, fault_without, fault_of};
 
 use crate::values::{are_bytes, are_cycles, is_form, is_name, is_scheduler, is_within};
 use crate::{Fault, Field};
@@ -11,7 +11,7 @@ use serde_json::Value;
 /// How many interrupts a request has at most.
 const MOST_REQUESTS: usize = 65_536;
 
-/// How many bytes an input has at most.
+/// How many bytes an input, or a plan file, has at most.
 const MOST_INPUT: usize = 1_048_576;
 
 /// The most cycles of a run, of a drawing and of a trace.
@@ -25,6 +25,11 @@ const MOST_TRACED: u64 = 10_000;
 const LAST_WORD: u64 = 65_535;
 
 const MOST_WORDS: u64 = 65_536;
+
+/// The most words of a line of a cache, and the greatest cost of a miss.
+const MOST_OF_LINE: u64 = 64;
+
+const MOST_PENALTY: u64 = 1000;
 
 // The fault, unless a test holds.
 fn unless(holds: bool, fault: Fault) -> Option<Fault>
@@ -52,7 +57,7 @@ fn is_requests(value: &Value) -> bool
     }
 }
 
-// What is wrong with an input of so many bytes.
+// What is wrong with an input, or a plan file, of so many bytes.
 fn length_fault(length: usize) -> Option<Fault>
     ensures { result ≡ unless (nat_le length 1048576) Fault.TooLong }
 {
@@ -107,6 +112,16 @@ fn scheduler_fault(value: &Value) -> Option<Fault>
     }
 }
 
+// What is wrong with a plan file.
+fn plans_fault(value: &Value) -> Option<Fault>
+    ensures { result ≡ plans_fault (as_str (view value.now)) }
+{
+    match value.as_str() {
+        Some(text) => length_fault(text.len()),
+        None => Some(Fault::NoString),
+    }
+}
+
 // What is wrong with the value of a field.
 fn fault_in(field: Field, value: &Value) -> Option<Fault>
     ensures { result ≡ fault_in field (view value.now) }
@@ -124,6 +139,11 @@ fn fault_in(field: Field, value: &Value) -> Option<Fault>
         Field::Count => number_fault(value, 1, MOST_WORDS),
         Field::Form => form_fault(value),
         Field::Scheduler => scheduler_fault(value),
+        Field::Plans | Field::PlanFile => plans_fault(value),
+        Field::To => number_fault(value, 0, MOST_BUDGET),
+        Field::Step => number_fault(value, 1, MOST_BUDGET),
+        Field::Line | Field::Brings => number_fault(value, 1, MOST_OF_LINE),
+        Field::Penalty => number_fault(value, 0, MOST_PENALTY),
     }
 }
 
@@ -143,7 +163,14 @@ fn fault_without(field: Field) -> Option<Fault>
         | Field::Dump
         | Field::Count
         | Field::Form
-        | Field::Scheduler => None,
+        | Field::Scheduler
+        | Field::Plans
+        | Field::PlanFile
+        | Field::To
+        | Field::Step
+        | Field::Line
+        | Field::Brings
+        | Field::Penalty => None,
     }
 }
 

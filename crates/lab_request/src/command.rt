@@ -17,9 +17,15 @@ pub enum Command {
     Profile,
     Compare,
     Disassemble,
+    Blocks,
+    /// `plans`, which runs a plan file or prints one.
+    Planned,
+    Caches,
+    /// `interrupts`, a run for each cycle of a request.
+    Sweep,
 }
 
-static COMMANDS: [Command; 7] = [
+static COMMANDS: [Command; 11] = [
     Command::Check,
     Command::Run,
     Command::Explain,
@@ -27,6 +33,10 @@ static COMMANDS: [Command; 7] = [
     Command::Profile,
     Command::Compare,
     Command::Disassemble,
+    Command::Blocks,
+    Command::Planned,
+    Command::Caches,
+    Command::Sweep,
 ];
 
 static SOURCE_ALONE: [Field; 2] = [Field::Source, Field::Name];
@@ -50,7 +60,7 @@ static OF_RUN: [Field; 8] = [
     Field::Count,
 ];
 
-static OF_DRAW: [Field; 9] = [
+static OF_DRAW: [Field; 10] = [
     Field::Source,
     Field::Name,
     Field::Interrupts,
@@ -60,6 +70,47 @@ static OF_DRAW: [Field; 9] = [
     Field::Cycles,
     Field::Form,
     Field::Scheduler,
+    Field::Plans,
+];
+
+static OF_PROFILE: [Field; 6] = [
+    Field::Source,
+    Field::Name,
+    Field::Interrupts,
+    Field::Input,
+    Field::Budget,
+    Field::Plans,
+];
+
+static OF_PLANS: [Field; 6] = [
+    Field::Source,
+    Field::Name,
+    Field::PlanFile,
+    Field::Interrupts,
+    Field::Input,
+    Field::Budget,
+];
+
+static OF_CACHES: [Field; 8] = [
+    Field::Source,
+    Field::Name,
+    Field::Input,
+    Field::Budget,
+    Field::Line,
+    Field::Brings,
+    Field::Penalty,
+    Field::Plans,
+];
+
+static OF_SWEEP: [Field; 8] = [
+    Field::Source,
+    Field::Name,
+    Field::Input,
+    Field::Budget,
+    Field::From,
+    Field::To,
+    Field::Step,
+    Field::Plans,
 ];
 
 static JSON: [&str; 2] = ["--as", "json"];
@@ -98,6 +149,10 @@ impl Command {
             Command::Profile => "profile",
             Command::Compare => "compare",
             Command::Disassemble => "disassemble",
+            Command::Blocks => "blocks",
+            Command::Planned => "plans",
+            Command::Caches => "caches",
+            Command::Sweep => "interrupts",
         }
     }
 
@@ -106,10 +161,14 @@ impl Command {
         ensures { result.now ≡ fields_of self }
     {
         match self {
-            Command::Check | Command::Disassemble => &SOURCE_ALONE,
+            Command::Check | Command::Disassemble | Command::Blocks => &SOURCE_ALONE,
             Command::Run => &OF_RUN,
             Command::Draw => &OF_DRAW,
-            Command::Explain | Command::Profile | Command::Compare => &OF_A_RUN,
+            Command::Explain | Command::Compare => &OF_A_RUN,
+            Command::Profile => &OF_PROFILE,
+            Command::Planned => &OF_PLANS,
+            Command::Caches => &OF_CACHES,
+            Command::Sweep => &OF_SWEEP,
         }
     }
 
@@ -119,8 +178,14 @@ impl Command {
     {
         match self {
             Command::Check => &ALL_JSON,
-            Command::Run | Command::Draw => &[],
-            Command::Explain | Command::Profile | Command::Compare | Command::Disassemble => &JSON,
+            Command::Run | Command::Draw | Command::Planned => &[],
+            Command::Explain
+            | Command::Profile
+            | Command::Compare
+            | Command::Disassemble
+            | Command::Blocks
+            | Command::Caches
+            | Command::Sweep => &JSON,
         }
     }
 
@@ -135,7 +200,11 @@ impl Command {
             | Command::Draw
             | Command::Profile
             | Command::Compare
-            | Command::Disassemble => false,
+            | Command::Disassemble
+            | Command::Blocks
+            | Command::Planned
+            | Command::Caches
+            | Command::Sweep => false,
         }
     }
 }

@@ -15,6 +15,15 @@ pub enum Field {
     Count,
     Form,
     Scheduler,
+    /// A plan file, as an option.
+    Plans,
+    /// A plan file, as an argument by itself.
+    PlanFile,
+    To,
+    Step,
+    Line,
+    Brings,
+    Penalty,
 }
 
 impl Field {
@@ -38,6 +47,12 @@ impl Field {
             Field::Count => "count",
             Field::Form => "as",
             Field::Scheduler => "scheduler",
+            Field::Plans | Field::PlanFile => "plans",
+            Field::To => "to",
+            Field::Step => "step",
+            Field::Line => "line",
+            Field::Brings => "brings",
+            Field::Penalty => "penalty",
         }
     }
 }

@@ -4,10 +4,10 @@ ghost use Rattle.std.specs.List.{flat_map};
 ghost use Rattle.mx_io.specs.MemoryShelf.{held_in, fails_at, SameFailing};
 ghost use Rattle.serde_json.specs.View.{view, items_view};
 ghost use Rattle.serde_json.specs.Find.{get, as_array};
-ghost use Rattle.lab_request.specs.Requests.{cycle_line, source_in, byte_in, bytes_in, interrupts_file, interrupts_in, input_file, input_in, with_file, held_of};
+ghost use Rattle.lab_request.specs.Requests.{cycle_line, source_in, byte_in, bytes_in, interrupts_file, interrupts_in, input_file, input_in, plans_file, plans_in, with_file, held_of};
 
 use crate::values::number_in;
-use crate::words::{INPUT_FILE, INTERRUPTS_FILE, name_in};
+use crate::words::{INPUT_FILE, INTERRUPTS_FILE, PLANS_FILE, name_in};
 use mx_io::{Memory, MemoryShelf};
 use mx_text::push_decimal;
 use serde_json::Value;
@@ -97,12 +97,35 @@ fn add_input(alloc: Global, files: &mut MemoryShelf, value: &Value) -> Result<()
     files.add(INPUT_FILE, bytes.as_slice())
 }
 
+// The text of the plan file, if it is given.
+fn plans_in(value: &Value) -> Option<&str>
+    ensures { option_map (λ t. t.now) result ≡ plans_in (view value.entry.now) }
+{
+    match value.get("plans") {
+        Some(plans) => plans.as_str(),
+        None => None,
+    }
+}
+
+// Adds the plan file, if it is given.
+fn add_plans(files: &mut MemoryShelf, value: &Value) -> Result<(), Memory>
+    ensures held { OnOk result ((n : List ℕ) → held_in files.new n
+        ≡ with_file plans_file (plans_in (view value.now)) (held_in files.old) n) }
+    ensures failing { SameFailing files.old files.new }
+{
+    match plans_in(value) {
+        Some(text) => files.add(PLANS_FILE, text.as_bytes()),
+        None => Ok(()),
+    }
+}
+
 /// The files that a body gives, as a shelf in which no read fails.
 pub fn files_of(alloc: Global, value: &Value) -> Result<MemoryShelf, Memory>
     ensures held { IfOk result (λ s. (n : List ℕ) → held_in s n ≡ held_of (view value.now) n) }
     ensures never { IfOk result (λ s. (n : ℕ) → fails_at s n ≡ false) }
 {
     let mut files = MemoryShelf::new(alloc);
+    add_plans(&mut files, value)?;
     add_input(alloc, &mut files, value)?;
     add_interrupts(alloc, &mut files, value)?;
     files.add(name_in(value), source_in(value).as_bytes())?;

@@ -1,19 +1,21 @@
 //! The words of a request.
-ghost use Rattle.std.specs.Prelude.{◌≡◌, ◌++◌, [], ◌∷◌, codes, decimal, IfOk, OnOk, map, option_map, option_and_then, unwrap_or, string_bytes};
+ghost use Rattle.std.specs.Prelude.{◌≡◌, ◌++◌, [], ◌∷◌, Some, codes, decimal, IfOk, OnOk, map, option_map, option_and_then, unwrap_or, string_bytes};
 ghost use Rattle.serde_json.specs.View.{view};
 ghost use Rattle.serde_json.specs.Find.{as_str};
 ghost use Rattle.lab_request.specs.Fields.{number_in};
-ghost use Rattle.lab_request.specs.Requests.{name_in, option_value, option_words, options_in, words_of};
+ghost use Rattle.lab_request.specs.Requests.{name_in, plans_file, option_value, option_name, option_words, options_in, words_of};
 
 use crate::values::number_in;
 use crate::{Command, Field};
 use serde_json::Value;
 use std::alloc::{AllocError, Global};
 
-/// The names of the two files beside the source.
+/// The names of the files beside the source.
 pub const INTERRUPTS_FILE: &str = ".interrupts";
 
 pub const INPUT_FILE: &str = ".input";
+
+pub const PLANS_FILE: &str = ".plans";
 
 /// What the source is called.
 pub fn name_in(value: &Value) -> &str
@@ -32,6 +34,17 @@ fn file_word(alloc: Global, file: &str, value: Option<&Value>) -> Result<Option<
     match value {
         Some(_) => Ok(Some(String::from_str(alloc, file)?)),
         None => Ok(None),
+    }
+}
+
+// The word of a plan file; without one it is to be printed.
+fn plans_word(alloc: Global, value: Option<&Value>) -> Result<Option<String>, AllocError>
+    ensures { IfOk result (λ o. option_map string_bytes o
+        ≡ Some (unwrap_or (option_map (λ d. plans_file) value.entry) (codes "--print"))) }
+{
+    match value {
+        Some(_) => Ok(Some(String::from_str(alloc, PLANS_FILE)?)),
+        None => Ok(Some(String::from_str(alloc, "--print")?)),
     }
 }
 
@@ -84,8 +97,19 @@ fn option_value(
         Field::Source | Field::Name => Ok(None),
         Field::Interrupts => file_word(alloc, INTERRUPTS_FILE, value),
         Field::Input => file_word(alloc, INPUT_FILE, value),
-        Field::Budget | Field::From | Field::Cycles | Field::Trace | Field::Dump | Field::Count =>
-            number_word(alloc, value),
+        Field::Plans => file_word(alloc, PLANS_FILE, value),
+        Field::PlanFile => plans_word(alloc, value),
+        Field::Budget
+        | Field::From
+        | Field::Cycles
+        | Field::Trace
+        | Field::Dump
+        | Field::Count
+        | Field::To
+        | Field::Step
+        | Field::Line
+        | Field::Brings
+        | Field::Penalty => number_word(alloc, value),
         Field::Form => Ok(Some(String::from_str(alloc, form_in(value))?)),
         Field::Scheduler => text_word(alloc, value),
     }
@@ -96,6 +120,19 @@ fn push_word(alloc: Global, words: &mut Vec<String>, word: &str) -> Result<(), A
     ensures { OnOk result (map string_bytes words.new.items ≡ map string_bytes words.old.items ++ word.now ∷ []) }
 {
     words.push(String::from_str(alloc, word)?)?;
+    Ok(())
+}
+
+// Appends the name of an option; a plan file may be an argument by itself.
+fn push_option_name(alloc: Global, words: &mut Vec<String>, field: Field) -> Result<(), AllocError>
+    ensures { OnOk result (map string_bytes words.new.items ≡ map string_bytes words.old.items ++ option_name field) }
+{
+    if let Field::PlanFile = field {
+        return Ok(());
+    }
+    let mut option = String::from_str(alloc, "--")?;
+    option.push_str(field.name())?;
+    words.push(option)?;
     Ok(())
 }
 
@@ -112,9 +149,7 @@ fn push_option(
     let Some(value) = value else {
         return Ok(());
     };
-    let mut option = String::from_str(alloc, "--")?;
-    option.push_str(field.name())?;
-    words.push(option)?;
+    push_option_name(alloc, words, field)?;
     words.push(value)?;
     Ok(())
 }

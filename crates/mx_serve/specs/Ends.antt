@@ -5,7 +5,7 @@ use Rattle.cmd_answer.specs.Exit.{exit_number}
 use Rattle.cmd_table.specs.Asked.{command_of}
 use Rattle.embed_call.specs.Answered.{Answered}
 use Rattle.lab_request.specs.declared.Command.{Command}
-use Rattle.lab_request.specs.declared.Command.TheVariants.{Check, Run, Explain, Draw, Profile, Compare, Disassemble}
+use Rattle.lab_request.specs.declared.Command.TheVariants.{Check, Run, Explain, Draw, Profile, Compare, Disassemble, Blocks, Planned, Caches, Sweep}
 use Rattle.lab_request.specs.Requests.{Held}
 
 -- a command of the toolchain: its words are answered over its files, with all that is promised of that answer, and nothing goes to
@@ -26,3 +26,7 @@ ends_in Draw words held status output errors = Unit {0}
 ends_in Profile words held status output errors = Unit {0}
 ends_in Compare words held status output errors = Unit {0}
 ends_in Disassemble words held status output errors = Unit {0}
+ends_in Blocks words held status output errors = Unit {0}
+ends_in Planned words held status output errors = Unit {0}
+ends_in Caches words held status output errors = Unit {0}
+ends_in Sweep words held status output errors = Unit {0}

@@ -77,7 +77,11 @@ impl Commands for Programs {
             | Command::Draw
             | Command::Profile
             | Command::Compare
-            | Command::Disassemble => laboratory_ends(alloc, words, files),
+            | Command::Disassemble
+            | Command::Blocks
+            | Command::Planned
+            | Command::Caches
+            | Command::Sweep => laboratory_ends(alloc, words, files),
         }
     }
 }

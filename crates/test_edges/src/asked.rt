@@ -4,8 +4,16 @@ use mx_io::{Memory, MemoryShelf, Shelf};
 use std::alloc::{AllocError, Global};
 use std::test::Fail;
 
-/// What it prints are the words that it was given, and as errors the file of interrupts. Its status is 3.
+/// What it prints are the words that it was given, and as errors the file of interrupts, or else the plan file. Its status is 3.
 struct Echo;
+
+// What a file holds; nothing if there is none.
+fn held(alloc: Global, files: &mut MemoryShelf, name: &str) -> Vec<u8> {
+    match files.read(alloc, name, 64) {
+        Ok(bytes) => bytes,
+        Err(_) => Vec::new(alloc),
+    }
+}
 
 // The words, a space behind each.
 fn spaced(alloc: Global, words: &[String]) -> Result<Vec<u8>, AllocError> {
@@ -30,9 +38,11 @@ impl Commands for Echo {
         let Ok(output) = spaced(alloc, words) else {
             return Err(Memory);
         };
-        let errors = match files.read(alloc, ".interrupts", 64) {
-            Ok(errors) => errors,
-            Err(_) => Vec::new(alloc),
+        let requests = held(alloc, &mut files, ".interrupts");
+        let errors = if requests.is_empty() {
+            held(alloc, &mut files, ".plans")
+        } else {
+            requests
         };
         Ok(Ended {
             status: 3,
@@ -44,7 +54,7 @@ impl Commands for Echo {
 
 // The name of a command, a body, and the answer to it.
 #[rattlefmt::skip]
-static RUN: [(&str, &str, &str); 4] = [
+static RUN: [(&str, &str, &str); 9] = [
     ("run", "{\"interrupts\": [2, 30], \"budget\": 7, \"source\": \"halt\", \"name\": \"a.s\"}",
         "{\"command\":\"run\",\"status\":3,\"errors\":\"2\\n30\\n\",\"text\":\"run a.s --interrupts .interrupts --budget 7 \"}\n"),
     ("check", "{\"source\": \"\"}", "{\"command\":\"check\",\"status\":3,\"text\":\"check source --as json --all \"}\n"),
@@ -52,11 +62,19 @@ static RUN: [(&str, &str, &str); 4] = [
         "{\"command\":\"draw\",\"status\":3,\"text\":\"draw source --cycles 9 --as svg \"}\n"),
     ("draw", "{\"source\": \"\", \"input\": []}",
         "{\"command\":\"draw\",\"status\":3,\"text\":\"draw source --input .input --as json \"}\n"),
+    ("blocks", "{\"source\": \"\"}", "{\"command\":\"blocks\",\"status\":3,\"text\":\"blocks source --as json \"}\n"),
+    ("plans", "{\"source\": \"\", \"budget\": 7, \"plans\": \"0 / -\"}",
+        "{\"command\":\"plans\",\"status\":3,\"errors\":\"0 / -\",\"text\":\"plans source .plans --budget 7 \"}\n"),
+    ("plans", "{\"source\": \"\"}", "{\"command\":\"plans\",\"status\":3,\"text\":\"plans source --print \"}\n"),
+    ("caches", "{\"source\": \"\", \"penalty\": 3, \"line\": 8, \"plans\": \"/\"}",
+        "{\"command\":\"caches\",\"status\":3,\"errors\":\"/\",\"text\":\"caches source --line 8 --penalty 3 --plans .plans --as json \"}\n"),
+    ("interrupts", "{\"source\": \"\", \"to\": 9, \"step\": 2}",
+        "{\"command\":\"interrupts\",\"status\":3,\"text\":\"interrupts source --to 9 --step 2 --as json \"}\n"),
 ];
 
 // The name of a command, a body, the field that is refused, and what is said of it.
 #[rattlefmt::skip]
-static REFUSED: [(&str, &str, &str, &str); 8] = [
+static REFUSED: [(&str, &str, &str, &str); 11] = [
     ("run", "{\"source\": \"\", \"budget\": 0}", "budget", "no number from 1 to 100000000"),
     ("run", "{\"source\": \"\", \"trace\": true}", "trace", "no number from 0 to 10000"),
     ("check", "{\"source\": \"\", \"budget\": 1}", "budget", "no field of check"),
@@ -66,6 +84,9 @@ static REFUSED: [(&str, &str, &str, &str); 8] = [
         "no list of at most 65536 ascending numbers from 0 to 4294967295"),
     ("draw", "{\"source\": \"\", \"as\": \"png\"}", "as", "none of json, text, svg, html, kanata, vcd"),
     ("check", "{\"source\": \"\", \"\\n\": 1}", "\\n", "no field of check"),
+    ("draw", "{\"source\": \"\", \"plans\": 1}", "plans", "no string"),
+    ("caches", "{\"source\": \"\", \"line\": 65}", "line", "no number from 1 to 64"),
+    ("interrupts", "{\"source\": \"\", \"interrupts\": []}", "interrupts", "no field of interrupts"),
 ];
 
 // A body that is no request, and the answer to it.
