@@ -1,5 +1,5 @@
 -- The session is that of the linked program, stopped at the link of the statement.
-use Rattle.std.proofs.Common.{ℕ, List, suc, length, inl, inr, refl, ap, ◌∙◌, subst, arith}
+use Rattle.std.proofs.Common.{suc, length, inl, inr, refl, ap, ◌∙◌, subst, arith}
 use Rattle.std.specs.Prelude.{is_some}
 use Rattle.mx_isa.specs.Board.{board}
 use Rattle.mx_io.specs.Shelves.{Told, Counts}
