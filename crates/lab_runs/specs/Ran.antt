@@ -1,5 +1,5 @@
 -- How often the blocks of a source ran.
-use Rattle.std.specs.Prelude.{◌≡◌, ℕ, List, length, map}
+use Rattle.std.specs.Prelude.{◌≡◌, ℕ, List, map, vec_len}
 use Rattle.mx_blocks.specs.declared.block.Block.{Block}
 use Rattle.mx_blocks.specs.Leaders.{AreBlocks}
 use Rattle.mx_link.specs.Gathered.{gathered}
@@ -13,7 +13,7 @@ use Rattle.lab_runs.specs.Runs.{loaded}
 
 -- the number of words of the code
 abbrev pub words_of : GivenRun → ℕ
-words_of run = length run.program.linked.image.code.items
+words_of run = vec_len run.program.linked.image.code
 
 -- how often the words of statement i, its own and its copies, were executed in the run, as far as 64 bits hold it
 abbrev pub executed_in : GivenRun → ℕ → ℕ

@@ -1,6 +1,5 @@
 //! How often the blocks of a source run.
 ghost use Rattle.std.specs.Prelude.{◌≡◌, ◌<◌, ℕ, IfOk, length, map, slice_index};
-ghost use Rattle.mx_turn.specs.Run.{run_of};
 ghost use Rattle.lab_profile.specs.Tallies.{IsProfile};
 ghost use Rattle.lab_runs.specs.Schedulers.{IsLinkedSource};
 ghost use Rattle.lab_runs.specs.Runs.{loaded};
