@@ -27,7 +27,7 @@ CHECKER = certificates.CHECKER
 SOURCES, MUTATED, EXERCISES = (20, 25, 600) if IS_SAMPLE else (100, 100, 10_000)
 # Of how many plan files that are read one is also built.
 BUILT = 4
-MOST_ITEMS, BUDGET = 131, 2_000
+MOST_ITEMS, BUDGET, OUT_OF_BUDGET = 131, 2_000, 3
 WORDS = ("-", "/", "0", "1", "2", "3", "07", "63", "64", "007", "x", "+", "+0", "+1", "+2", "+3", "+01", "1+", "--", "//", "-1", "")
 FAULT = re.compile(rb"plans:(\d+): error\[(\w+)\]")
 REJECTED = re.compile(rb"(plan|copies of plan) (\d+) \(line (\d+)\) rejected by (\w+): ")
@@ -151,7 +151,7 @@ def said_of(done):
     found = FAULT.search(done.stderr)
     if found:
         return int(found[1]), found[2].decode() if done.returncode == 8 and not done.stdout else None
-    if done.returncode not in (0, 1):
+    if done.returncode not in (0, OUT_OF_BUDGET):
         return None
     lines, said = done.stdout.split(b"\n"), []
     for line in lines:
