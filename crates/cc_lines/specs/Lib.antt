@@ -1,5 +1,6 @@
 pub mod Bytes
 pub mod Conditions
 pub mod Marks
+pub mod Numbered
 pub mod Refusals
 pub mod Registers

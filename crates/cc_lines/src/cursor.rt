@@ -1,8 +1,10 @@
 //! Pieces of a text.
 ghost use Rattle.std.specs.Prelude.{◌≡◌, ◌≢◌, ◌<◌, ◌≤◌, ◌==◌, [], None, All, IfSome, MatchOption, not, reverse, length};
-ghost use Rattle.std.specs.List.{position, position_or_len, before_first, after_first};
+ghost use Rattle.std.specs.Char.{is_ascii_digit};
+ghost use Rattle.std.specs.List.{position, position_or_len, before_first, after_first, list_all};
 ghost use Rattle.cc_lines.specs.Bytes;
 ghost use Rattle.cc_lines.specs.Marks;
+ghost use Rattle.cc_lines.specs.Numbered;
 
 use crate::quoted::escape;
 
@@ -278,16 +280,30 @@ pub(crate) fn begins_number(text: &[u8]) -> bool {
 }
 
 /// Whether a text names a label that is a number: the last one before the line, as `1b`, or the next one, as `1f`.
-pub fn names_numbered(text: &[u8]) -> bool {
+pub fn names_numbered(text: &[u8]) -> bool
+    ensures { result ≡ Numbered.names_numbered text.now }
+{
     match text {
         [digits @ .., b'b' | b'f'] => is_numbered(digits),
         _ => false,
     }
 }
 
+/// Whether all bytes are decimal digits.
+fn has_digits(text: &[u8]) -> bool
+    ensures { result ≡ list_all is_ascii_digit text.now }
+{
+    text.iter().all(|b| b.is_ascii_digit())
+}
+
 /// Whether a name is a number.
-pub fn is_numbered(name: &[u8]) -> bool {
-    !name.is_empty() && name.iter().all(|b| b.is_ascii_digit())
+pub fn is_numbered(name: &[u8]) -> bool
+    ensures { result ≡ Numbered.is_numbered name.now }
+{
+    match name {
+        [] => false,
+        _ => has_digits(name),
+    }
 }
 
 /// The number that a text spells, below 2^64, without a sign: decimal, octal after a `0`, binary after `0b`, hexadecimal after
