@@ -4,7 +4,7 @@ ghost use Rattle.mx_isa.specs.Board.{board};
 ghost use Rattle.mx_layout.specs.Overlong.{IsRefusal};
 ghost use Rattle.mx_link.specs.Origins.{from_nowhere};
 ghost use Rattle.mx_link.specs.Linked.{IsLinked};
-ghost use Rattle.mx_plans.specs.Files.{lines_said, marks_of};
+ghost use Rattle.mx_plans.specs.Files.{lines_said, marks_of, marks_of_lines};
 ghost use Rattle.mx_plans.specs.Says.{IsProposed};
 ghost use Rattle.cmd_answer.specs.Answer.{prints};
 ghost use Rattle.cmd_answer.specs.Replies.{reply_answer, IfAnswered, OnAnswer};
@@ -76,14 +76,14 @@ fn no_label_reply(alloc: Global, name: &str) -> Result<Reply, Memory>
 // Links a source at the board's place without copies by the plans that the lines of a file say. Copies would run before the block
 // that they are of.
 fn linked_plain(alloc: Global, source: &Source, lines: &[PlanLine]) -> Result<Linked, LinkError>
-    ensures linked { IfOk result (IsLinked (IsProposed source.now (marks_of (lines_said lines.now))) from_nowhere source.now board) }
-    ensures refused { IfErr result (IsRefusal (IsProposed source.now (marks_of (lines_said lines.now))) source.now board) }
+    ensures linked { IfOk result (IsLinked (IsProposed source.now (marks_of_lines lines.now)) from_nowhere source.now board) }
+    ensures refused { IfErr result (IsRefusal (IsProposed source.now (marks_of_lines lines.now)) source.now board) }
 {
     let _statements = source.statements();
     link_planned_plain(alloc, source, BOARD, lines)
 }
 
-// The same, or the reply to the first branch that does not reach its target.
+// The same by what the lines say, or the reply to the first branch that does not reach its target.
 fn plain_linked(alloc: Global, source: &Source, lines: &[PlanLine]) -> Result<Linked, Failure>
     ensures linked { IfOk result (IsLinked (IsProposed source.now (marks_of (lines_said lines.now))) from_nowhere source.now board) }
     ensures refused { IfAnswered result (IsTooFar source.now (lines_said lines.now)) }

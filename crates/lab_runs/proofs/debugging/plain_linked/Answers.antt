@@ -1,7 +1,24 @@
+use Rattle.std.proofs.Common.{List, sym, subst}
+use Rattle.mx_isa.specs.Board.{board}
+use Rattle.mx_layout.specs.Overlong.{IsRefusal}
+use Rattle.mx_link.specs.Origins.{from_nowhere}
+use Rattle.mx_link.specs.Linked.{IsLinked}
+use Rattle.mx_plans.specs.declared.Mark.{Mark}
 use Rattle.mx_plans.specs.Files.{lines_said}
+use Rattle.mx_plans.specs.Says.{IsProposed}
+use Rattle.mx_plans.proofs.Picked.{marks_said}
 use Rattle.lab_runs.proofs.TooFar.{too_far}
 use Rattle.lab_runs.proofs.debugging.plain_linked.Goals as goal
 
+pub returns-in-Ok-clause-linked : goal.returns-in-Ok-clause-linked
+returns-in-Ok-clause-linked c =
+    let source = c.args.source.now in
+    subst (λ (marks : List (List Mark)). IsLinked (IsProposed source marks) from_nowhere source board c.in-Ok.linked)
+    (sym (marks_said c.args.lines.now)) c.in-Ok.ensures.linked
+
 pub returns-in-Err-clause-refused : goal.returns-in-Err-clause-refused
 returns-in-Err-clause-refused c =
-    too_far c.args.source.now (lines_said c.args.lines.now) c.in-Err.error c.unlinked.result c.in-Err.ensures.refused c.unlinked.ensures
+    let source = c.args.source.now in
+    let refusal = subst (λ (marks : List (List Mark)). IsRefusal (IsProposed source marks) source board c.in-Err.error)
+    (sym (marks_said c.args.lines.now)) c.in-Err.ensures.refused in
+    too_far source (lines_said c.args.lines.now) c.in-Err.error c.unlinked.result refusal c.unlinked.ensures
