@@ -16,7 +16,7 @@ import tempfile
 import common
 from chromium import CONTRAST, NAMED, TOO_FAINT, need_chromium
 from common import HAS_TIMES, IS_SAMPLE, TOP, tell
-from serve import SORT, go, opened, press_enter, put, serving, settled, type_source, wait_for
+from serve import go, opened, press_enter, put, serving, settled, type_source, wait_for
 
 AT_ONCE = 300  # milliseconds from a key to the cycles of the changed plan
 SLOTS = f"{TOP}/examples/full_slots.s"
