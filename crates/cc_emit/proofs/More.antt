@@ -1,5 +1,5 @@
 -- One more piece of a text.
-use Rattle.std.proofs.Common.{◌≡◌, ℕ, ◌+◌, ◌<◌, List, [], ◌∷◌, ◌++◌, length, take, Some, sym, ap, ◌∙◌, append_assoc}
+use Rattle.std.proofs.Common.{◌≡◌, ℕ, ◌+◌, ◌<◌, List, ◌++◌, length, take, Some, sym, ap, ◌∙◌, append_assoc}
 use Rattle.std.specs.List.{flat_map, slice_get}
 use Rattle.std.proofs.lemmas.List.{flat_map_more, take_more}
 use Rattle.std.proofs.lemmas.Option.{slice_get-get_or}
@@ -25,8 +25,9 @@ two_more a l m b c e h = h ∙ (ap (λ t. t ++ m) e ∙ append_assoc a l m)
 pub three_more : (a l m n b c d : List ℕ) → b ≡ a ++ l → c ≡ b ++ m → d ≡ c ++ n → d ≡ a ++ (l ++ (m ++ n))
 three_more a l m n b c d e h k = two_more a l (m ++ n) b d e (two_more b m n c d h k)
 
-pub four_more : (a l m n o b c d e : List ℕ) → b ≡ a ++ l → c ≡ b ++ m → d ≡ c ++ n → e ≡ d ++ o → e ≡ a ++ (l ++ (m ++ (n ++ o)))
-four_more a l m n o b c d e h k i j = two_more a l (m ++ (n ++ o)) b e h (three_more b m n o c d e k i j)
+-- four, from the left
+pub four_more : (a l m n o b c d e : List ℕ) → b ≡ a ++ l → c ≡ b ++ m → d ≡ c ++ n → e ≡ d ++ o → e ≡ a ++ (((l ++ m) ++ n) ++ o)
+four_more a l m n o b c d e h k i j = two_more a ((l ++ m) ++ n) o d e (two_more a (l ++ m) n c d (two_more a l m b c h k) i) j
 
 -- what is written of the element at a place
 pub item_more : {X : Type 0} (f : X → List ℕ) (xs : List X) (i : ℕ) (d : X) (before now after : List ℕ) → i < length xs
@@ -34,3 +35,8 @@ pub item_more : {X : Type 0} (f : X → List ℕ) (xs : List X) (i : ℕ) (d : X
 item_more f xs i d before now after h e more =
     more ∙ (ap (λ t. t ++ f (get_or xs i d)) e ∙ (flat_map_more f before (take i xs) (get_or xs i d)
     ∙ ap (λ ys. before ++ flat_map f ys) (sym (take_more xs i d h))))
+
+-- a text that begins with the code
+pub whole_text : (code more size b c e text : List ℕ) → b ≡ code → c ≡ b ++ more → e ≡ c ++ size → text ≡ e
+    → (rest : List ℕ) × (text ≡ code ++ rest)
+whole_text code more size b c e text h k i j = (more ++ size, j ∙ (two_more b more size c e k i ∙ ap (λ t. t ++ (more ++ size)) h))

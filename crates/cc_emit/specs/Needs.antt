@@ -1,5 +1,5 @@
 -- What an output holds.
-use Rattle.std.specs.Prelude.{ℕ, ◌-◌, ◌^◌, ◌≡◌, min, Bool, false, cond, List, [], ◌∷◌, ◌++◌, count_by, Option, None}
+use Rattle.std.specs.Prelude.{ℕ, ◌-◌, ◌^◌, ◌≡◌, min, Bool, false, cond, List, [], ◌∷◌, ◌++◌, count_by, None}
 use Rattle.std.specs.List.{list_any}
 use Rattle.std.specs.Str.{bytes_eq}
 use Rattle.cc_emit.specs.declared.line.Line.{Line}

@@ -9,9 +9,13 @@ use Rattle.cc_emit.specs.Lines.{lines_text}
 use Rattle.cc_emit.specs.Data.{front_text, added_text}
 use Rattle.cc_emit.specs.Images.{image_text}
 
--- a comment, and the code
+-- the comment that a source begins with
+abbrev pub title : List ℕ
+title = codes "; translated from assembly for MIPS-I\n"
+
+-- the comment, and the code
 abbrev pub code_text : Program → List Line → List ℕ
-code_text p lines = codes "; translated from assembly for MIPS-I\n" ++ lines_text p lines
+code_text p lines = title ++ lines_text p lines
 
 -- a number and what it counts, after a text
 abbrev pub plural : ℕ → List ℕ

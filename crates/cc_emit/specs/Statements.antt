@@ -1,5 +1,5 @@
 -- The text of a statement: its mnemonic and its operands.
-use Rattle.std.specs.Prelude.{ℕ, ℤ, List, ◌∷◌, [], ◌++◌, codes, decimal}
+use Rattle.std.specs.Prelude.{ℕ, List, ◌++◌, codes, decimal}
 use Rattle.std.specs.Fmt.{signed_decimal}
 use Rattle.std.specs.List.{flat_map}
 use Rattle.cc_lines.specs.declared.instruction.Condition.{Condition}

@@ -6,7 +6,6 @@
 
 ghost use Rattle.std.specs.Prelude.{◌≡◌, ◌≤◌, ◌++◌, replicate, OnOk};
 ghost use Rattle.std.specs.List.{flat_map};
-ghost use Rattle.cc_emit.specs.declared.line.Line.TheVariants.{Written};
 ghost use Rattle.cc_emit.specs.Routines;
 
 use crate::line::{Line, Plain, ROUTINES, Routine, Target, Transfer};
@@ -247,12 +246,12 @@ const QUOTIENT: &[(u32, &str)] = &[
 ];
 
 /// Adds a line so often.
-fn put_line(out: &mut Output, times: u32, line: &'static str) -> Result<(), AllocError>
-    ensures lines { OnOk result (out.new.lines.items ≡ out.old.lines.items ++ replicate times (Written line.entry)) }
+fn put_line(out: &mut Output, times: u32, line: Line) -> Result<(), AllocError>
+    ensures lines { OnOk result (out.new.lines.items ≡ out.old.lines.items ++ replicate times line) }
     ensures routines { out.new.routines ≡ out.old.routines }
 {
     for _done in 0..times {
-        out.push(Line::Written(line))?;
+        out.push(line)?;
     }
     Ok(())
 }
@@ -263,7 +262,7 @@ fn put_rows(out: &mut Output, rows: &[(u32, &'static str)]) -> Result<(), AllocE
     ensures routines { out.new.routines ≡ out.old.routines }
 {
     for row in rows {
-        put_line(out, row.0, row.1)?;
+        put_line(out, row.0, Line::Written(row.1))?;
     }
     Ok(())
 }

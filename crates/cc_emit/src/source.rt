@@ -3,6 +3,7 @@ ghost use Rattle.std.specs.Prelude.{◌≡◌, ◌++◌, List, ℕ, codes, IfOk,
 ghost use Rattle.cc_emit.specs.Lines.{lines_text};
 ghost use Rattle.cc_emit.specs.Sources;
 
+use crate::line::Line;
 use crate::output::Output;
 use crate::print::put_lines;
 use crate::text::Text;
@@ -47,11 +48,11 @@ fn put_size(
 }
 
 /// Adds a comment and the code.
-fn put_code(text: &mut Text, program: &Program, out: &Output) -> Result<(), AllocError>
-    ensures { OnOk result (text.new ≡ text.old ++ Sources.code_text program.now out.now.lines.items) }
+fn put_code(text: &mut Text, program: &Program, lines: &[Line]) -> Result<(), AllocError>
+    ensures { OnOk result (text.new ≡ text.old ++ Sources.code_text program.now lines.now) }
 {
     text.put(b"; translated from assembly for MIPS-I\n")?;
-    put_lines(text, program, &out.lines)
+    put_lines(text, program, lines)
 }
 
 /// The text of a source, whose data begin at the first byte of data, those of the program end before the byte `behind`, and all before
@@ -66,7 +67,7 @@ pub fn source_text(
     ensures { IfOk result (λ text. (rest : List ℕ) × (text.items ≡ Sources.code_text program.now out.now.lines.items ++ rest)) }
 {
     let mut text = Text::new(alloc);
-    put_code(&mut text, program, out)?;
+    put_code(&mut text, program, &out.lines)?;
     put_data(alloc, &mut text, program, out, behind, end)?;
     let words = u64::from(end).saturating_sub(FIRST_BYTE) / 4;
     put_size(&mut text, out.statements, out.instructions, words as u32)?;
