@@ -1,1 +1,9 @@
+pub mod Data
+pub mod Images
 pub mod Labels
+pub mod Lines
+pub mod Names
+pub mod Needs
+pub mod Routines
+pub mod Sources
+pub mod Statements

@@ -1,10 +1,20 @@
-//! The text of a translation: its statements and how they are spelled, the routines that they call, and its data.
+//! The lines of a translation and their text, the routines that they call, and its data.
 #![tactic(auto)]
 
+mod line;
+mod operand;
 mod output;
+mod print;
 mod routines;
+mod source;
+mod text;
 mod words;
 
-pub use output::{Mask, Output, Routine};
+pub use line::{
+    Computed, Line, Mask, Plain, Routine, Target, Transfer, Word, compute_line, is_short,
+    shift_line,
+};
+pub use output::Output;
 pub use routines::put_routines;
-pub use words::{end_of, put_data};
+pub use source::source_text;
+pub use words::end_of;

@@ -1,130 +1,32 @@
-//! The text of the translation.
-ghost use Rattle.std.specs.Prelude.{◌≡◌, ◌++◌, ◌+◌, ◌-◌, ◌^◌, min, Some, OnOk};
-ghost use Rattle.std.specs.Fmt.{signed_decimal};
-ghost use Rattle.cc_emit.specs.Labels.{labelled};
+//! What functions become: their lines, and what these need besides.
+ghost use Rattle.std.specs.Prelude.{◌≡◌, ◌++◌, ◌∷◌, ◌+◌, ◌-◌, ◌^◌, [], min, nat_eq, Some, OnOk};
+ghost use Rattle.std.specs.Option.{option_or};
+ghost use Rattle.indexmap.specs.IndexSet.{insert_key};
+ghost use Rattle.cc_emit.specs.Needs;
 
-use cc_lines::{Refusal, is_numbered};
-use cc_program::Symbols;
+use crate::line::{Computed, Line, Mask, Plain, Routine, Transfer, compute_line, shift_line};
+use cc_lines::Refusal;
 use indexmap::IndexSet;
-use itoa::Buffer;
 use std::alloc::{AllocError, Global};
 
-/// The routines that statements call.
-#[derive(Clone, Copy, PartialEq, Eq)]
-pub enum Routine {
-    /// The low word of a product.
-    Low,
-    Product,
-    SignedProduct,
-    Quotient,
-    SignedQuotient,
-    ShiftLeft,
-    ShiftRight,
-    ShiftArithmetic,
-    RotateLeft,
-    /// What ends the program at a trap, a quotient by 0, a load or a store at a null pointer, and a full stack.
-    Trap,
-    Zero,
-    Null,
-    Stack,
-}
-
-/// All routines, in their order in the text.
-pub(crate) static ROUTINES: [Routine; 13] = [
-    Routine::Low,
-    Routine::SignedProduct,
-    Routine::Product,
-    Routine::SignedQuotient,
-    Routine::Quotient,
-    Routine::ShiftLeft,
-    Routine::ShiftRight,
-    Routine::ShiftArithmetic,
-    Routine::RotateLeft,
-    Routine::Trap,
-    Routine::Zero,
-    Routine::Null,
-    Routine::Stack,
-];
-
-impl Routine {
-    /// Its label, which no other has.
-    pub fn name(self) -> &'static str
-        ensures { labelled result.now ≡ Some self }
-    {
-        match self {
-            Routine::Low => "m.mul",
-            Routine::Product => "m.multu",
-            Routine::SignedProduct => "m.mult",
-            Routine::Quotient => "m.divu",
-            Routine::SignedQuotient => "m.div",
-            Routine::ShiftLeft => "m.sll",
-            Routine::ShiftRight => "m.srl",
-            Routine::ShiftArithmetic => "m.sra",
-            Routine::RotateLeft => "m.rol",
-            Routine::Trap => "m.trap",
-            Routine::Zero => "m.zero",
-            Routine::Null => "m.null",
-            Routine::Stack => "m.stack",
-        }
-    }
-}
-
-/// Tables of data that statements read.
-#[derive(Clone, Copy, PartialEq, Eq)]
-pub enum Mask {
-    LoadLeft,
-    LoadRight,
-    StoreLeft,
-    StoreRight,
-}
-
-/// All tables, in their order in the text.
-pub(crate) static MASKS: [Mask; 4] = [
-    Mask::LoadLeft,
-    Mask::LoadRight,
-    Mask::StoreLeft,
-    Mask::StoreRight,
-];
-
-impl Mask {
-    /// Its label.
-    pub(crate) fn name(self) -> &'static str {
-        match self {
-            Mask::LoadLeft => "t.lwl",
-            Mask::LoadRight => "t.lwr",
-            Mask::StoreLeft => "t.swl",
-            Mask::StoreRight => "t.swr",
-        }
-    }
-
-    /// Its words.
-    pub(crate) fn words(self) -> [i64; 4] {
-        match self {
-            Mask::LoadLeft => [0, 0xff, 0xffff, 0xff_ffff],
-            Mask::LoadRight => [0xffff_ff00, 0xffff_0000, 0xff00_0000, 0],
-            Mask::StoreLeft => [0xffff_ffff, 0xff_ffff, 0xffff, 0xff],
-            Mask::StoreRight => [0xff00_0000, 0xffff_0000, 0xffff_ff00, 0xffff_ffff],
-        }
-    }
-}
-
-/// The text, how many statements it has, and what else it needs.
+/// The lines of the code, how many statements they are, and what else they need. A source has at most 20,000 statements: labels and
+/// comments are none.
 #[derive(Drop)]
 pub struct Output {
-    pub text: Vec<u8>,
+    pub lines: Vec<Line>,
     pub statements: u32,
     /// How many instructions of the assembly they come from.
     pub instructions: u32,
     /// The symbol of the function with which there were too many statements.
     pub crossing: Option<u32>,
     /// The numbers that statements load from data, in order.
-    pub(crate) numbers: IndexSet<u32>,
+    pub numbers: IndexSet<u32>,
     /// The addends to the first byte after all data that statements load from data.
-    pub(crate) ends: IndexSet<u32>,
-    routines: Vec<Routine>,
-    masks: Vec<Mask>,
-    /// How many labels of its own it has.
-    labels: u32,
+    pub ends: IndexSet<u32>,
+    pub routines: Vec<Routine>,
+    pub masks: Vec<Mask>,
+    /// How many places branches over statements go to.
+    pub skips: u32,
     /// Whether it reads input.
     pub input: bool,
     /// The number that register 1 holds, where that is known.
@@ -133,25 +35,21 @@ pub struct Output {
     pub fault: Option<(u32, u32, Refusal)>,
 }
 
-/// How many statements lines are: those that are no labels.
-fn statements_in(text: &str) -> u32 {
-    let mut lines = 0u32;
-    let mut labels = 0u32;
-    for byte in text.as_bytes() {
-        if *byte == b'\n' {
-            lines = lines.saturating_add(1);
-        } else if *byte == b':' {
-            labels = labels.saturating_add(1);
-        }
-    }
-    lines.saturating_sub(labels)
+/// How many of these lines are statements.
+fn statements_in(lines: &[Line]) -> u32
+    ensures { result ≡ Needs.statements_in lines.now }
+{
+    let count = lines.iter().filter(|line| line.is_statement()).count();
+    count.min(0xffff_ffff) as u32
 }
 
 impl Output {
-    /// The empty text.
-    pub fn new(alloc: Global) -> Output {
+    /// No lines.
+    pub fn new(alloc: Global) -> Output
+        ensures { Needs.IsNew result }
+    {
         Output {
-            text: Vec::new(alloc),
+            lines: Vec::new(alloc),
             statements: 0,
             instructions: 0,
             crossing: None,
@@ -159,7 +57,7 @@ impl Output {
             ends: IndexSet::new(alloc),
             routines: Vec::new(alloc),
             masks: Vec::new(alloc),
-            labels: 0,
+            skips: 0,
             input: false,
             first: None,
             fault: None,
@@ -167,174 +65,116 @@ impl Output {
     }
 
     /// Notes why the statement of a line is not translated, if it is the first one.
-    pub fn refuse(&mut self, unit: u32, line: u32, refusal: Refusal) {
+    pub fn refuse(&mut self, unit: u32, line: u32, refusal: Refusal)
+        ensures fault { self.new.fault ≡ option_or self.old.fault (Some (unit, line, refusal)) }
+        ensures lines { self.new.lines ≡ self.old.lines }
+    {
         if self.fault.is_none() {
             self.fault = Some((unit, line, refusal));
         }
     }
 
-    /// Keeps a number for a word of data, which a statement loads: `k.` and the number name it.
-    pub fn keep_number(&mut self, number: u32) -> Result<(), AllocError> {
+    /// Keeps a number for a word of data, which a statement loads.
+    pub fn keep_number(&mut self, number: u32) -> Result<(), AllocError>
+        ensures kept { OnOk result (self.new.numbers.keys ≡ insert_key nat_eq self.old.numbers.keys number) }
+        ensures lines { self.new.lines ≡ self.old.lines }
+    {
         self.numbers.insert(number)?;
         Ok(())
     }
 
-    /// Keeps an address after all data for a word of data: `k.end.` and the addend name it.
-    pub fn keep_end(&mut self, addend: u32) -> Result<(), AllocError> {
+    /// Keeps an address after all data for a word of data.
+    pub fn keep_end(&mut self, addend: u32) -> Result<(), AllocError>
+        ensures kept { OnOk result (self.new.ends.keys ≡ insert_key nat_eq self.old.ends.keys addend) }
+        ensures lines { self.new.lines ≡ self.old.lines }
+    {
         self.ends.insert(addend)?;
         Ok(())
     }
 
-    /// Adds text, which is no statement.
-    pub fn put(&mut self, text: &str) -> Result<(), AllocError>
-        ensures text { OnOk result (self.new.text.items ≡ self.old.text.items ++ text.now) }
-        ensures statements { self.new.statements ≡ self.old.statements }
+    /// Adds lines.
+    pub fn push_all(&mut self, lines: &[Line]) -> Result<(), AllocError>
+        ensures lines { OnOk result (self.new.lines.items ≡ self.old.lines.items ++ lines.now) }
+        ensures statements { self.new.statements ≡ min (self.old.statements + Needs.statements_in lines.now) (2 ^ 32 - 1) }
+        ensures routines { self.new.routines ≡ self.old.routines }
     {
-        self.text.extend_from_slice(text.as_bytes())
+        self.statements = self.statements.saturating_add(statements_in(lines));
+        self.lines.extend_from_slice(lines)
     }
 
-    /// Adds a number.
-    pub fn number(&mut self, value: i64) -> Result<(), AllocError>
-        ensures text { OnOk result (self.new.text.items ≡ self.old.text.items ++ signed_decimal value) }
-        ensures statements { self.new.statements ≡ self.old.statements }
+    /// Adds a line.
+    pub fn push(&mut self, line: Line) -> Result<(), AllocError>
+        ensures lines { OnOk result (self.new.lines.items ≡ self.old.lines.items ++ line ∷ []) }
+        ensures statements { self.new.statements ≡ min (self.old.statements + Needs.statements_in (line ∷ [])) (2 ^ 32 - 1) }
+        ensures routines { self.new.routines ≡ self.old.routines }
     {
-        self.text
-            .extend_from_slice(Buffer::new().format(value).as_bytes())
+        self.push_all(&[line])
     }
 
-    /// Adds text, with the next of these counts, as registers have them, for each `%`, and a number for each `@`.
-    pub fn filled(&mut self, text: &str, number: i64, counts: &[u8]) -> Result<(), AllocError> {
-        let mut left = counts.iter();
-        for byte in text.as_bytes() {
-            if *byte == b'%' {
-                if let Some(count) = left.next() {
-                    self.number(i64::from(*count))?;
-                }
-            } else if *byte == b'@' {
-                self.number(number)?;
-            } else {
-                self.text.push(*byte)?;
-            }
-        }
-        Ok(())
-    }
-
-    /// Adds lines, which are statements and labels, with the next of these counts for each `%`, and a number for each `@`.
-    pub fn lines_with(&mut self, text: &str, number: i64, counts: &[u8]) -> Result<(), AllocError> {
-        self.statements = self.statements.saturating_add(statements_in(text));
-        self.filled(text, number, counts)
-    }
-
-    /// Adds lines, with the next of these counts for each `%`.
-    pub fn lines(&mut self, text: &str, counts: &[u8]) -> Result<(), AllocError> {
-        self.lines_with(text, 0, counts)
-    }
-
-    /// Adds a statement, with the next of these counts for each `%`, and a number for each `@`.
-    pub fn statement_with(
-        &mut self,
-        text: &str,
-        number: i64,
-        counts: &[u8],
-    ) -> Result<(), AllocError> {
-        self.put("        ")?;
-        self.filled(text, number, counts)?;
-        self.lines("\n", &[])
-    }
-
-    /// Adds a statement, with the next of these counts for each `%`.
-    pub fn statement(&mut self, text: &str, counts: &[u8]) -> Result<(), AllocError> {
-        self.statement_with(text, 0, counts)
-    }
-
-    /// Adds a statement that ends with the name of a symbol and what follows it up to the end of the line.
-    pub fn statement_to(
-        &mut self,
-        text: &str,
-        counts: &[u8],
-        symbols: &Symbols,
-        symbol: u32,
-        behind: &str,
-    ) -> Result<(), AllocError> {
-        self.put("        ")?;
-        self.filled(text, 0, counts)?;
-        self.name(symbols, symbol)?;
-        self.lines(behind, &[])
-    }
-
-    /// Adds the letters of a name.
-    fn letters(&mut self, name: &[u8]) -> Result<(), AllocError> {
-        for byte in name {
-            if *byte == b'$' {
-                self.put(".S.")?;
-            } else {
-                self.text.push(*byte)?;
-            }
-        }
-        Ok(())
-    }
-
-    /// Adds dots and the number of a text.
-    fn owner(&mut self, dots: &str, owner: u32) -> Result<(), AllocError> {
-        self.put(dots)?;
-        self.number(i64::from(owner))
-    }
-
-    /// Adds the name of a symbol that belongs to the text with this number, or to all where that is 0.
-    fn owned_name(&mut self, name: &[u8], owner: u32) -> Result<(), AllocError> {
-        if is_numbered(name) {
-            self.put("_.n")?;
-            self.letters(name)?;
-            return self.owner(".", owner);
-        }
-        if let [b'$', rest @ ..] = name {
-            self.letters(rest)?;
-            return self.owner(".", owner);
-        }
-        self.put("_")?;
-        self.letters(name)?;
-        if owner == 0 {
-            return Ok(());
-        }
-        self.owner("..", owner)
-    }
-
-    /// Adds the name that a symbol has in the source: with a `_` before a name of C, and the number of its text after it
-    /// where it is that text's own.
-    pub fn name(&mut self, symbols: &Symbols, number: u32) -> Result<(), AllocError> {
-        match symbols.at(symbols.resolved(number)) {
-            Some(symbol) => self.owned_name(symbol.name, symbol.owner),
-            None => Ok(()),
-        }
-    }
-
-    /// Adds a line with the label of a symbol.
-    pub fn label(&mut self, symbols: &Symbols, symbol: u32) -> Result<(), AllocError> {
-        self.name(symbols, symbol)?;
-        self.put(":\n")
-    }
-
-    /// A new label of its own: its number.
-    pub fn fresh(&mut self) -> u32
-        ensures number { result ≡ min (self.old.labels + 1) (2 ^ 32 - 1) }
-        ensures kept { self.new.labels ≡ result }
+    /// Adds an instruction.
+    pub fn plain(&mut self, plain: Plain) -> Result<(), AllocError>
+        ensures lines { OnOk result (self.new.lines.items ≡ self.old.lines.items ++ Line.Plain plain ∷ []) }
+        ensures statements { self.new.statements ≡ min (self.old.statements + 1) (2 ^ 32 - 1) }
+        ensures routines { self.new.routines ≡ self.old.routines }
     {
-        self.labels = self.labels.saturating_add(1);
-        self.labels
+        self.push(Line::Plain(plain))
+    }
+
+    /// Adds what computes of two registers.
+    pub fn compute(&mut self, op: Computed, a: u8, b: u8, rd: u8) -> Result<(), AllocError>
+        ensures lines { OnOk result (self.new.lines.items ≡ self.old.lines.items ++ Line.Plain (Plain.Compute op a b rd) ∷ []) }
+        ensures statements { self.new.statements ≡ min (self.old.statements + 1) (2 ^ 32 - 1) }
+        ensures routines { self.new.routines ≡ self.old.routines }
+    {
+        self.push(compute_line(op, a, b, rd))
+    }
+
+    /// Adds what takes a register's value from two others in a row.
+    pub fn shift(&mut self, a: u8, b: u8, count: u8, rd: u8) -> Result<(), AllocError>
+        ensures lines { OnOk result (self.new.lines.items ≡ self.old.lines.items ++ Line.Plain (Plain.Sh a b count rd) ∷ []) }
+        ensures statements { self.new.statements ≡ min (self.old.statements + 1) (2 ^ 32 - 1) }
+        ensures routines { self.new.routines ≡ self.old.routines }
+    {
+        self.push(shift_line(a, b, count, rd))
+    }
+
+    /// Adds a branch, a jump, a call or the end.
+    pub fn transfer(&mut self, transfer: Transfer) -> Result<(), AllocError>
+        ensures lines { OnOk result (self.new.lines.items ≡ self.old.lines.items ++ Line.Transfer transfer ∷ []) }
+        ensures statements { self.new.statements ≡ min (self.old.statements + 1) (2 ^ 32 - 1) }
+        ensures routines { self.new.routines ≡ self.old.routines }
+    {
+        self.push(Line::Transfer(transfer))
+    }
+
+    /// The number of a new place that a branch over statements goes to.
+    pub fn skip(&mut self) -> u32
+        ensures number { result ≡ min (self.old.skips + 1) (2 ^ 32 - 1) }
+        ensures kept { self.new.skips ≡ result }
+    {
+        self.skips = self.skips.saturating_add(1);
+        self.skips
     }
 
     /// Whether a routine is called.
-    pub(crate) fn needs(&self, routine: Routine) -> bool {
-        self.routines.contains(&routine)
+    pub(crate) fn needs(&self, routine: Routine) -> bool
+        ensures { result ≡ Needs.has_routine routine self.now.routines.items }
+    {
+        self.routines.iter().any(|one| one.name() == routine.name())
     }
 
     /// Whether a table is read.
-    pub(crate) fn needs_mask(&self, mask: Mask) -> bool {
-        self.masks.contains(&mask)
+    pub(crate) fn needs_mask(&self, mask: Mask) -> bool
+        ensures { result ≡ Needs.has_mask mask self.now.masks.items }
+    {
+        self.masks.iter().any(|one| one.name() == mask.name())
     }
 
     /// Notes that a routine is called.
-    pub fn need(&mut self, routine: Routine) -> Result<(), AllocError> {
+    pub fn need(&mut self, routine: Routine) -> Result<(), AllocError>
+        ensures noted { OnOk result (self.new.routines.items ≡ Needs.with_routine routine self.old.routines.items) }
+        ensures lines { self.new.lines ≡ self.old.lines }
+    {
         if !self.needs(routine) {
             self.routines.push(routine)?;
         }
@@ -342,7 +182,10 @@ impl Output {
     }
 
     /// Notes that a table is read.
-    pub fn need_mask(&mut self, mask: Mask) -> Result<(), AllocError> {
+    pub fn need_mask(&mut self, mask: Mask) -> Result<(), AllocError>
+        ensures noted { OnOk result (self.new.masks.items ≡ Needs.with_mask mask self.old.masks.items) }
+        ensures lines { self.new.lines ≡ self.old.lines }
+    {
         if !self.needs_mask(mask) {
             self.masks.push(mask)?;
         }

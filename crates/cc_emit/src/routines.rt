@@ -1,372 +1,433 @@
 //! The routines that statements call: products, quotients, and shifts by a register.
 //!
 //! They take their operands in r1 and r26 and their link in r27, and answer in r24 and r25, as LO and HI, shifts in r1. They
-//! change these, MD and r22 alone. A line that begins with `8*` is written 8 times.
+//! change these, MD and r22 alone. Each line of a routine follows the number of times
+//! that it is written.
 
-use crate::output::{Output, ROUTINES, Routine};
+ghost use Rattle.std.specs.Prelude.{◌≡◌, ◌≤◌, ◌++◌, replicate, OnOk};
+ghost use Rattle.std.specs.List.{flat_map};
+ghost use Rattle.cc_emit.specs.Routines;
+
+use crate::line::{Line, Plain, ROUTINES, Routine, Target, Transfer};
+use crate::output::Output;
 use std::alloc::AllocError;
 
 /// The low word of a product. A step is needed for each bit that MD has, so it takes an operand below 2^8 or 2^16, or at least -2^15
 /// and negative, if there is one.
-static LOW: &str = "m.mul:
-        sh r1,r0,#16,r24
-        beq r24,r0,m.mul.b
-        sh r26,r0,#16,r24
-        beq r24,r0,m.mul.a
-        asr r1,#15,r24
-        not r24,r24
-        beq r24,r0,m.mul.c
-        asr r26,#15,r24
-        not r24,r24
-        beq r24,r0,m.mul.e
-        movtos r1,md
-        mstart r26,r24
-31*        mstep r24,r26,r24
-        jr r27
-m.mul.a:
-        sh r26,r0,#8,r24
-        beq r24,r0,m.mul.f
-        sh r0,r26,#16,r26
-        movtos r26,md
-        mstep r0,r1,r24
-15*        mstep r24,r1,r24
-        jr r27
-m.mul.b:
-        sh r1,r0,#8,r24
-        beq r24,r0,m.mul.d
-        sh r26,r0,#8,r24
-        beq r24,r0,m.mul.f
-        sh r0,r1,#16,r1
-        movtos r1,md
-        mstep r0,r26,r24
-15*        mstep r24,r26,r24
-        jr r27
-m.mul.c:
-        sh r0,r1,#16,r1
-        movtos r1,md
-        mstart r26,r24
-15*        mstep r24,r26,r24
-        jr r27
-m.mul.d:
-        sh r0,r1,#8,r1
-        movtos r1,md
-        mstep r0,r26,r24
-7*        mstep r24,r26,r24
-        jr r27
-m.mul.e:
-        sh r0,r26,#16,r26
-        movtos r26,md
-        mstart r1,r24
-15*        mstep r24,r1,r24
-        jr r27
-m.mul.f:
-        sh r0,r26,#8,r26
-        movtos r26,md
-        mstep r0,r1,r24
-7*        mstep r24,r1,r24
-        jr r27
-";
-
-/// Both words of a product of signed numbers, by that of their amounts.
-static SIGNED_PRODUCT: &str = "m.mult:
-        or r1,r26,r24
-        bge r24,r0,m.multu
-        xor r1,r26,r22
-        st m.x[r0],r22
-        st m.link[r0],r27
-        bge r1,r0,m.mult.a
-        sub r0,r1,r1
-m.mult.a:
-        bge r26,r0,m.mult.b
-        sub r0,r26,r26
-m.mult.b:
-        call m.multu,r27
-        ld m.link[r0],r27
-        st m.link[r0],r0
-        ld m.x[r0],r22
-        bge r22,r0,m.mult.c
-        not r25,r25
-        sub r0,r24,r24
-        bne r24,r0,m.mult.c
-        addi r25,#1,r25
-m.mult.c:
-        jr r27
-";
-
-/// Both words of a product of unsigned numbers: of the lower one and each half of the other, or of four halves.
-static PRODUCT: &str = "m.multu:
-        bhs r26,r1,m.multu.a
-        mov r1,r24
-        mov r26,r1
-        mov r24,r26
-m.multu.a:
-        sh r0,r26,#16,r22
-        sh r22,r0,#16,r22
-        sh r1,r0,#8,r24
-        bne r24,r0,m.multu.b
-        sh r0,r1,#8,r1
-        sh r26,r0,#16,r26
-        mov r0,r25
-        movtos r1,md
-8*        mstep r24,r22,r24
-        beq r26,r0,m.multu.c
-        movtos r1,md
-8*        mstep r25,r26,r25
-m.multu.c:
-        sh r24,r0,#16,r22
-        add r25,r22,r25
-        sh r0,r24,#16,r24
-        sh r24,r25,#16,r24
-        sh r25,r0,#16,r25
-        jr r27
-m.multu.b:
-        sh r1,r0,#16,r24
-        bne r24,r0,m.multu.d
-        sh r0,r1,#16,r1
-        sh r26,r0,#16,r26
-        mov r0,r25
-        movtos r1,md
-16*        mstep r24,r22,r24
-        beq r26,r0,m.multu.c
-        movtos r1,md
-16*        mstep r25,r26,r25
-        b m.multu.c
-m.multu.d:
-        movtos r1,md
-        mov r0,r25
-16*        mstep r25,r22,r25
-        mov r0,r24
-16*        mstep r24,r22,r24
-        sh r26,r0,#16,r26
-        movtos r1,md
-        mov r0,r22
-16*        mstep r22,r26,r22
-        mov r0,r1
-16*        mstep r1,r26,r1
-        sh r24,r0,#16,r26
-        add r25,r26,r25
-        sh r0,r25,#16,r26
-        sh r26,r0,#16,r26
-        add r1,r26,r1
-        sh r25,r0,#16,r25
-        add r22,r25,r25
-        sh r1,r0,#16,r26
-        add r25,r26,r25
-        sh r0,r24,#16,r24
-        sh r24,r1,#16,r24
-        jr r27
-";
-
-/// A quotient of signed numbers and its remainder, by those of their amounts.
-static SIGNED_QUOTIENT: &str = "m.div:
-        or r1,r26,r24
-        bge r24,r0,m.divu
-        beq r26,r0,m.zero
-        xor r1,r26,r24
-        st m.x[r0],r24
-        st m.y[r0],r1
-        st m.link[r0],r27
-        bge r1,r0,m.div.a
-        sub r0,r1,r1
-m.div.a:
-        bge r26,r0,m.div.b
-        sub r0,r26,r26
-m.div.b:
-        call m.divu,r27
-        ld m.link[r0],r27
-        st m.link[r0],r0
-        ld m.y[r0],r1
-        ld m.x[r0],r26
-        bge r1,r0,m.div.c
-        sub r0,r25,r25
-m.div.c:
-        bge r26,r0,m.div.d
-        sub r0,r24,r24
-m.div.d:
-        jr r27
-";
-
-/// The statements before the steps of a quotient of unsigned numbers, and how many steps it takes: as many as it may have bits.
-static QUOTIENT: [(&str, u32); 5] = [
-    (
-        "m.divu:
-        beq r26,r0,m.zero
-        sh r1,r0,#8,r25
-        bhs r25,r26,m.divu.b
-        sh r1,r0,#4,r24
-        bhs r24,r26,m.divu.a
-        bhs r1,r26,m.divu.e
-        mov r1,r25
-        mov r0,r24
-        jr r27
-m.divu.e:
-        mov r24,r25
-        sh r0,r1,#4,r1
-",
-        4,
-    ),
-    (
-        "m.divu.a:
-        sh r0,r1,#8,r1
-",
-        8,
-    ),
-    (
-        "m.divu.b:
-        sh r1,r0,#16,r25
-        bhs r25,r26,m.divu.c
-        sh r0,r1,#16,r1
-",
-        16,
-    ),
-    (
-        "m.divu.c:
-        sh r1,r0,#24,r25
-        bhs r25,r26,m.divu.d
-        sh r0,r1,#24,r1
-",
-        24,
-    ),
-    (
-        "m.divu.d:
-        mov r0,r25
-",
-        32,
-    ),
+const LOW: &[(u32, &str)] = &[
+    (1, "m.mul:"),
+    (1, "        sh r1,r0,#16,r24"),
+    (1, "        beq r24,r0,m.mul.b"),
+    (1, "        sh r26,r0,#16,r24"),
+    (1, "        beq r24,r0,m.mul.a"),
+    (1, "        asr r1,#15,r24"),
+    (1, "        not r24,r24"),
+    (1, "        beq r24,r0,m.mul.c"),
+    (1, "        asr r26,#15,r24"),
+    (1, "        not r24,r24"),
+    (1, "        beq r24,r0,m.mul.e"),
+    (1, "        movtos r1,md"),
+    (1, "        mstart r26,r24"),
+    (31, "        mstep r24,r26,r24"),
+    (1, "        jr r27"),
+    (1, "m.mul.a:"),
+    (1, "        sh r26,r0,#8,r24"),
+    (1, "        beq r24,r0,m.mul.f"),
+    (1, "        sh r0,r26,#16,r26"),
+    (1, "        movtos r26,md"),
+    (1, "        mstep r0,r1,r24"),
+    (15, "        mstep r24,r1,r24"),
+    (1, "        jr r27"),
+    (1, "m.mul.b:"),
+    (1, "        sh r1,r0,#8,r24"),
+    (1, "        beq r24,r0,m.mul.d"),
+    (1, "        sh r26,r0,#8,r24"),
+    (1, "        beq r24,r0,m.mul.f"),
+    (1, "        sh r0,r1,#16,r1"),
+    (1, "        movtos r1,md"),
+    (1, "        mstep r0,r26,r24"),
+    (15, "        mstep r24,r26,r24"),
+    (1, "        jr r27"),
+    (1, "m.mul.c:"),
+    (1, "        sh r0,r1,#16,r1"),
+    (1, "        movtos r1,md"),
+    (1, "        mstart r26,r24"),
+    (15, "        mstep r24,r26,r24"),
+    (1, "        jr r27"),
+    (1, "m.mul.d:"),
+    (1, "        sh r0,r1,#8,r1"),
+    (1, "        movtos r1,md"),
+    (1, "        mstep r0,r26,r24"),
+    (7, "        mstep r24,r26,r24"),
+    (1, "        jr r27"),
+    (1, "m.mul.e:"),
+    (1, "        sh r0,r26,#16,r26"),
+    (1, "        movtos r26,md"),
+    (1, "        mstart r1,r24"),
+    (15, "        mstep r24,r1,r24"),
+    (1, "        jr r27"),
+    (1, "m.mul.f:"),
+    (1, "        sh r0,r26,#8,r26"),
+    (1, "        movtos r26,md"),
+    (1, "        mstep r0,r1,r24"),
+    (7, "        mstep r24,r1,r24"),
+    (1, "        jr r27"),
 ];
 
-/// How often a line of a routine is written, which is a number before a `*`, and the line itself.
-fn repeated(line: &str) -> (u32, &str) {
-    match line.split_once("*") {
-        Some((times, rest)) => (times.parse::<u32>().unwrap_or(1), rest),
-        None => (1, line),
-    }
-}
+/// Both words of a product of signed numbers, by that of their amounts.
+const SIGNED_PRODUCT: &[(u32, &str)] = &[
+    (1, "m.mult:"),
+    (1, "        or r1,r26,r24"),
+    (1, "        bge r24,r0,m.multu"),
+    (1, "        xor r1,r26,r22"),
+    (1, "        st m.x[r0],r22"),
+    (1, "        st m.link[r0],r27"),
+    (1, "        bge r1,r0,m.mult.a"),
+    (1, "        sub r0,r1,r1"),
+    (1, "m.mult.a:"),
+    (1, "        bge r26,r0,m.mult.b"),
+    (1, "        sub r0,r26,r26"),
+    (1, "m.mult.b:"),
+    (1, "        call m.multu,r27"),
+    (1, "        ld m.link[r0],r27"),
+    (1, "        st m.link[r0],r0"),
+    (1, "        ld m.x[r0],r22"),
+    (1, "        bge r22,r0,m.mult.c"),
+    (1, "        not r25,r25"),
+    (1, "        sub r0,r24,r24"),
+    (1, "        bne r24,r0,m.mult.c"),
+    (1, "        addi r25,#1,r25"),
+    (1, "m.mult.c:"),
+    (1, "        jr r27"),
+];
+
+/// Both words of a product of unsigned numbers: of the lower one and each half of the other, or of four halves.
+const PRODUCT: &[(u32, &str)] = &[
+    (1, "m.multu:"),
+    (1, "        bhs r26,r1,m.multu.a"),
+    (1, "        mov r1,r24"),
+    (1, "        mov r26,r1"),
+    (1, "        mov r24,r26"),
+    (1, "m.multu.a:"),
+    (1, "        sh r0,r26,#16,r22"),
+    (1, "        sh r22,r0,#16,r22"),
+    (1, "        sh r1,r0,#8,r24"),
+    (1, "        bne r24,r0,m.multu.b"),
+    (1, "        sh r0,r1,#8,r1"),
+    (1, "        sh r26,r0,#16,r26"),
+    (1, "        mov r0,r25"),
+    (1, "        movtos r1,md"),
+    (8, "        mstep r24,r22,r24"),
+    (1, "        beq r26,r0,m.multu.c"),
+    (1, "        movtos r1,md"),
+    (8, "        mstep r25,r26,r25"),
+    (1, "m.multu.c:"),
+    (1, "        sh r24,r0,#16,r22"),
+    (1, "        add r25,r22,r25"),
+    (1, "        sh r0,r24,#16,r24"),
+    (1, "        sh r24,r25,#16,r24"),
+    (1, "        sh r25,r0,#16,r25"),
+    (1, "        jr r27"),
+    (1, "m.multu.b:"),
+    (1, "        sh r1,r0,#16,r24"),
+    (1, "        bne r24,r0,m.multu.d"),
+    (1, "        sh r0,r1,#16,r1"),
+    (1, "        sh r26,r0,#16,r26"),
+    (1, "        mov r0,r25"),
+    (1, "        movtos r1,md"),
+    (16, "        mstep r24,r22,r24"),
+    (1, "        beq r26,r0,m.multu.c"),
+    (1, "        movtos r1,md"),
+    (16, "        mstep r25,r26,r25"),
+    (1, "        b m.multu.c"),
+    (1, "m.multu.d:"),
+    (1, "        movtos r1,md"),
+    (1, "        mov r0,r25"),
+    (16, "        mstep r25,r22,r25"),
+    (1, "        mov r0,r24"),
+    (16, "        mstep r24,r22,r24"),
+    (1, "        sh r26,r0,#16,r26"),
+    (1, "        movtos r1,md"),
+    (1, "        mov r0,r22"),
+    (16, "        mstep r22,r26,r22"),
+    (1, "        mov r0,r1"),
+    (16, "        mstep r1,r26,r1"),
+    (1, "        sh r24,r0,#16,r26"),
+    (1, "        add r25,r26,r25"),
+    (1, "        sh r0,r25,#16,r26"),
+    (1, "        sh r26,r0,#16,r26"),
+    (1, "        add r1,r26,r1"),
+    (1, "        sh r25,r0,#16,r25"),
+    (1, "        add r22,r25,r25"),
+    (1, "        sh r1,r0,#16,r26"),
+    (1, "        add r25,r26,r25"),
+    (1, "        sh r0,r24,#16,r24"),
+    (1, "        sh r24,r1,#16,r24"),
+    (1, "        jr r27"),
+];
+
+/// A quotient of signed numbers and its remainder, by those of their amounts.
+const SIGNED_QUOTIENT: &[(u32, &str)] = &[
+    (1, "m.div:"),
+    (1, "        or r1,r26,r24"),
+    (1, "        bge r24,r0,m.divu"),
+    (1, "        beq r26,r0,m.zero"),
+    (1, "        xor r1,r26,r24"),
+    (1, "        st m.x[r0],r24"),
+    (1, "        st m.y[r0],r1"),
+    (1, "        st m.link[r0],r27"),
+    (1, "        bge r1,r0,m.div.a"),
+    (1, "        sub r0,r1,r1"),
+    (1, "m.div.a:"),
+    (1, "        bge r26,r0,m.div.b"),
+    (1, "        sub r0,r26,r26"),
+    (1, "m.div.b:"),
+    (1, "        call m.divu,r27"),
+    (1, "        ld m.link[r0],r27"),
+    (1, "        st m.link[r0],r0"),
+    (1, "        ld m.y[r0],r1"),
+    (1, "        ld m.x[r0],r26"),
+    (1, "        bge r1,r0,m.div.c"),
+    (1, "        sub r0,r25,r25"),
+    (1, "m.div.c:"),
+    (1, "        bge r26,r0,m.div.d"),
+    (1, "        sub r0,r24,r24"),
+    (1, "m.div.d:"),
+    (1, "        jr r27"),
+];
+
+/// A quotient of unsigned numbers and its remainder, in as many steps as it may have bits.
+const QUOTIENT: &[(u32, &str)] = &[
+    (1, "m.divu:"),
+    (1, "        beq r26,r0,m.zero"),
+    (1, "        sh r1,r0,#8,r25"),
+    (1, "        bhs r25,r26,m.divu.b"),
+    (1, "        sh r1,r0,#4,r24"),
+    (1, "        bhs r24,r26,m.divu.a"),
+    (1, "        bhs r1,r26,m.divu.e"),
+    (1, "        mov r1,r25"),
+    (1, "        mov r0,r24"),
+    (1, "        jr r27"),
+    (1, "m.divu.e:"),
+    (1, "        mov r24,r25"),
+    (1, "        sh r0,r1,#4,r1"),
+    (1, "        movtos r1,md"),
+    (4, "        dstep r25,r26,r25"),
+    (1, "        movfrs md,r24"),
+    (1, "        jr r27"),
+    (1, "m.divu.a:"),
+    (1, "        sh r0,r1,#8,r1"),
+    (1, "        movtos r1,md"),
+    (8, "        dstep r25,r26,r25"),
+    (1, "        movfrs md,r24"),
+    (1, "        jr r27"),
+    (1, "m.divu.b:"),
+    (1, "        sh r1,r0,#16,r25"),
+    (1, "        bhs r25,r26,m.divu.c"),
+    (1, "        sh r0,r1,#16,r1"),
+    (1, "        movtos r1,md"),
+    (16, "        dstep r25,r26,r25"),
+    (1, "        movfrs md,r24"),
+    (1, "        jr r27"),
+    (1, "m.divu.c:"),
+    (1, "        sh r1,r0,#24,r25"),
+    (1, "        bhs r25,r26,m.divu.d"),
+    (1, "        sh r0,r1,#24,r1"),
+    (1, "        movtos r1,md"),
+    (24, "        dstep r25,r26,r25"),
+    (1, "        movfrs md,r24"),
+    (1, "        jr r27"),
+    (1, "m.divu.d:"),
+    (1, "        mov r0,r25"),
+    (1, "        movtos r1,md"),
+    (32, "        dstep r25,r26,r25"),
+    (1, "        movfrs md,r24"),
+    (1, "        jr r27"),
+];
 
 /// Adds a line so often.
-fn put_line(out: &mut Output, line: &str, times: u32) -> Result<(), AllocError> {
-    for _ in 0..times {
-        out.put(line)?;
-        out.put("\n")?;
-    }
-    if !line.ends_with(":") {
-        out.statements = out.statements.saturating_add(times);
-    }
-    Ok(())
-}
-
-/// Adds the lines of a routine.
-fn put_text(out: &mut Output, text: &str) -> Result<(), AllocError> {
-    for line in text.lines() {
-        let (times, line) = repeated(line);
-        put_line(out, line, times)?;
+fn put_line(out: &mut Output, times: u32, line: Line) -> Result<(), AllocError>
+    ensures lines { OnOk result (out.new.lines.items ≡ out.old.lines.items ++ replicate times line) }
+    ensures routines { out.new.routines ≡ out.old.routines }
+{
+    for _done in 0..times {
+        out.push(line)?;
     }
     Ok(())
 }
 
-/// Adds the steps of a quotient, of so many bits, after some lines.
-fn put_steps(out: &mut Output, before: &str, bits: u32) -> Result<(), AllocError> {
-    out.lines(before, &[])?;
-    put_line(out, "        movtos r1,md", 1)?;
-    put_line(out, "        dstep r25,r26,r25", bits)?;
-    out.lines(
-        "        movfrs md,r24
-        jr r27
-",
-        &[],
-    )
-}
-
-/// The routine of a quotient and its remainder.
-fn put_quotient(out: &mut Output) -> Result<(), AllocError> {
-    for (before, bits) in &QUOTIENT {
-        put_steps(out, before, *bits)?;
+/// Adds lines, each so often as its number says.
+fn put_rows(out: &mut Output, rows: &[(u32, &'static str)]) -> Result<(), AllocError>
+    ensures lines { OnOk result (out.new.lines.items ≡ out.old.lines.items ++ flat_map Routines.row_lines rows.now) }
+    ensures routines { out.new.routines ≡ out.old.routines }
+{
+    for row in rows {
+        put_line(out, row.0, Line::Written(row.1))?;
     }
     Ok(())
 }
 
-/// The text of a shift by a number.
-fn shift_text(which: Routine) -> &'static str {
+/// What shifts by a number that is not 0.
+fn shift_by(which: Routine, count: u8) -> Plain
+    requires { count ≤ 32 }
+    ensures { result ≡ Routines.shift_by which count }
+{
     match which {
-        Routine::ShiftLeft => "sh r0,r1,#@,r1",
-        Routine::ShiftRight => "sh r1,r0,#@,r1",
-        Routine::RotateLeft => "sh r1,r1,#@,r1",
-        _ => "asr r1,#@,r1",
+        Routine::ShiftLeft => Plain::Sh {
+            a: 0,
+            b: 1,
+            count: 32 - count,
+            rd: 1,
+        },
+        Routine::ShiftRight => Plain::Sh {
+            a: 1,
+            b: 0,
+            count,
+            rd: 1,
+        },
+        Routine::RotateLeft => Plain::Sh {
+            a: 1,
+            b: 1,
+            count: 32 - count,
+            rd: 1,
+        },
+        _ => Plain::Asr {
+            rs: 1,
+            count,
+            rd: 1,
+        },
     }
 }
 
 /// The place in a shift's routine for a count.
-fn put_shift_by(out: &mut Output, which: Routine, count: i64) -> Result<(), AllocError> {
-    out.put(which.name())?;
-    out.filled(".n@:\n", count, &[])?;
+fn put_shift_by(out: &mut Output, which: Routine, count: u8) -> Result<(), AllocError>
+    requires { count ≤ 32 }
+    ensures lines { OnOk result (out.new.lines.items ≡ out.old.lines.items ++ Routines.shift_lines which count) }
+    ensures routines { out.new.routines ≡ out.old.routines }
+{
+    let target = Target::Shifted {
+        routine: which,
+        count,
+    };
+    out.push(Line::Mark(target))?;
     if count > 0 {
-        let number = match which {
-            Routine::ShiftLeft | Routine::RotateLeft => 32 - count,
-            _ => count,
-        };
-        out.statement_with(shift_text(which), number, &[])?;
+        out.plain(shift_by(which, count))?;
     }
-    out.statement("jr r27", &[])
+    out.transfer(Transfer::JumpReg(27))
 }
 
-/// The routine of a shift: a place for each count.
-fn put_shift(out: &mut Output, which: Routine) -> Result<(), AllocError> {
-    for count in 0..32u8 {
-        put_shift_by(out, which, i64::from(count))?;
+/// The routine of a shift: a place for each of so many counts.
+fn put_shift(out: &mut Output, which: Routine, counts: u8) -> Result<(), AllocError>
+    requires { counts ≤ 32 }
+    ensures lines { OnOk result (out.new.lines.items ≡ out.old.lines.items ++ Routines.shifts_lines which counts) }
+    ensures routines { out.new.routines ≡ out.old.routines }
+{
+    for count in 0..counts {
+        put_shift_by(out, which, count)?;
     }
     Ok(())
 }
 
 /// What ends a program that cannot go on, with a status in r2: 128 and the number of the signal that other systems give. r27 keeps the
 /// address that the routine was called from, or of a full stack the one that the function was called from.
-fn end_text(which: Routine) -> Option<&'static str> {
+const TRAP: &[(u32, &str)] = &[
+    (1, "m.trap:"),
+    (1, "        addi r0,#133,r2"),
+    (1, "        halt"),
+];
+
+const ZERO: &[(u32, &str)] = &[
+    (1, "m.zero:"),
+    (1, "        addi r0,#136,r2"),
+    (1, "        halt"),
+];
+
+const NULL: &[(u32, &str)] = &[
+    (1, "m.null:"),
+    (1, "        addi r0,#139,r2"),
+    (1, "        halt"),
+];
+
+const STACK: &[(u32, &str)] = &[
+    (1, "m.stack:"),
+    (1, "        mov r31,r27"),
+    (1, "        addi r0,#139,r2"),
+    (1, "        halt"),
+];
+
+/// The lines of a routine that is no shift.
+fn rows_of(which: Routine) -> Option<&'static [(u32, &'static str)]> {
     match which {
-        Routine::Trap => Some("m.trap:\n        addi r0,#133,r2\n        halt\n"),
-        Routine::Zero => Some("m.zero:\n        addi r0,#136,r2\n        halt\n"),
-        Routine::Null => Some("m.null:\n        addi r0,#139,r2\n        halt\n"),
-        Routine::Stack => {
-            Some("m.stack:\n        mov r31,r27\n        addi r0,#139,r2\n        halt\n")
-        }
+        Routine::Low => Some(LOW),
+        Routine::Product => Some(PRODUCT),
+        Routine::SignedProduct => Some(SIGNED_PRODUCT),
+        Routine::Quotient => Some(QUOTIENT),
+        Routine::SignedQuotient => Some(SIGNED_QUOTIENT),
+        Routine::Trap => Some(TRAP),
+        Routine::Zero => Some(ZERO),
+        Routine::Null => Some(NULL),
+        Routine::Stack => Some(STACK),
         _ => None,
     }
 }
 
 /// Adds a routine.
-fn put_routine(out: &mut Output, which: Routine) -> Result<(), AllocError> {
-    if let Some(text) = end_text(which) {
-        return out.lines(text, &[]);
+fn put_routine(out: &mut Output, which: Routine) -> Result<(), AllocError>
+    ensures { out.new.routines ≡ out.old.routines }
+{
+    match rows_of(which) {
+        Some(rows) => put_rows(out, rows),
+        None => put_shift(out, which, 32),
     }
-    match which {
-        Routine::Low => put_text(out, LOW),
-        Routine::Product => put_text(out, PRODUCT),
-        Routine::SignedProduct => put_text(out, SIGNED_PRODUCT),
-        Routine::Quotient => put_quotient(out),
-        Routine::SignedQuotient => put_text(out, SIGNED_QUOTIENT),
-        _ => put_shift(out, which),
+}
+
+/// Adds a routine, if it is called.
+fn put_if_called(out: &mut Output, which: Routine) -> Result<(), AllocError>
+    ensures { out.new.routines ≡ out.old.routines }
+{
+    if out.needs(which) {
+        put_routine(out, which)
+    } else {
+        Ok(())
+    }
+}
+
+/// Adds those of these routines that are called.
+fn put_called(out: &mut Output, routines: &[Routine]) -> Result<(), AllocError>
+    ensures { out.new.routines ≡ out.old.routines }
+{
+    for which in routines {
+        put_if_called(out, *which)?;
+    }
+    Ok(())
+}
+
+/// Notes that a routine is called where another is.
+fn need_with(out: &mut Output, routine: Routine, other: Routine) -> Result<(), AllocError>
+    ensures noted { OnOk result (out.new.routines.items ≡ Routines.needed_with routine other out.old.routines.items) }
+    ensures lines { out.new.lines ≡ out.old.lines }
+{
+    if out.needs(routine) {
+        out.need(other)
+    } else {
+        Ok(())
     }
 }
 
 /// Notes the routines that those that are called call.
-fn need_called(out: &mut Output) -> Result<(), AllocError> {
-    if out.needs(Routine::SignedProduct) {
-        out.need(Routine::Product)?;
-    }
-    if out.needs(Routine::SignedQuotient) {
-        out.need(Routine::Quotient)?;
-    }
-    if out.needs(Routine::Quotient) {
-        out.need(Routine::Zero)?;
-    }
-    Ok(())
+fn need_called(out: &mut Output) -> Result<(), AllocError>
+    ensures noted { OnOk result (out.new.routines.items ≡ Routines.all_needed out.old.routines.items) }
+    ensures lines { out.new.lines ≡ out.old.lines }
+{
+    need_with(out, Routine::SignedProduct, Routine::Product)?;
+    need_with(out, Routine::SignedQuotient, Routine::Quotient)?;
+    need_with(out, Routine::Quotient, Routine::Zero)
 }
 
-/// Adds the routines that are called.
-pub fn put_routines(out: &mut Output) -> Result<(), AllocError> {
+/// Adds the routines that are called, and those that these call.
+pub fn put_routines(out: &mut Output) -> Result<(), AllocError>
+    ensures { OnOk result (out.new.routines.items ≡ Routines.all_needed out.old.routines.items) }
+{
     need_called(out)?;
-    for which in &ROUTINES {
-        if out.needs(*which) {
-            put_routine(out, *which)?;
-        }
-    }
-    Ok(())
+    put_called(out, &ROUTINES)
 }

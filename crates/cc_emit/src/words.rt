@@ -1,8 +1,17 @@
 //! The data of the translation.
-ghost use Rattle.std.specs.Prelude.{◌≤◌};
+ghost use Rattle.std.specs.Prelude.{◌≡◌, ◌≤◌, ◌<◌, ◌++◌, drop, decimal, slice_get, ℕ, Some, IfOk, OnOk};
+ghost use Rattle.std.specs.List.{flat_map};
+ghost use Rattle.cc_rules.specs.Numbers.{kept_number};
+ghost use Rattle.cc_emit.specs.declared.words.Writing.TheVariants.{Nothing};
+ghost use Rattle.cc_emit.specs.Data;
+ghost use Rattle.cc_emit.specs.Images;
+ghost use Rattle.cc_emit.specs.Sources.{IsData};
 
-use crate::output::{MASKS, Mask, Output, ROUTINES, Routine};
-use cc_program::{Meaning, Object, Program, Reference};
+use crate::line::{MASKS, Mask, Routine, Target, Word};
+use crate::output::Output;
+use crate::text::Text;
+use cc_lines::Shift;
+use cc_program::{Meaning, Object, Program, Reference, Symbols};
 use cc_rules::{LIMIT, kept_number, place_in, spelled_len, words_with};
 use std::alloc::{AllocError, Global};
 
@@ -88,7 +97,9 @@ fn write_references(image: &mut Image, program: &Program, object: &Object, end: 
 }
 
 /// Whether a datum holds the place of a function, or of a label in one.
-fn is_descriptor(program: &Program, object: &Object) -> bool {
+fn is_descriptor(program: &Program, object: &Object) -> bool
+    ensures { result ≡ Images.is_descriptor program.now object.now }
+{
     matches!(
         program.symbols.meaning(object.symbol),
         Meaning::Function(_) | Meaning::Place { .. }
@@ -140,14 +151,31 @@ fn image_of(alloc: Global, program: &Program, behind: u32, end: u32) -> Result<I
     Ok(image)
 }
 
-/// The four bytes from a place on, most significant first.
-fn word_at(bytes: &[u8], at: usize) -> u32 {
-    let mut word = 0u32;
-    for i in 0..4usize {
-        let byte = bytes.get(at.saturating_add(i)).copied().unwrap_or(0);
-        word = word.wrapping_mul(256).wrapping_add(u32::from(byte));
+/// The byte at a place, or 0 where there is none.
+fn byte_at(bytes: &[u8], at: usize) -> u32
+    ensures value { result ≡ Images.byte_at bytes.now at }
+    ensures short { result < 256 }
+{
+    u32::from(bytes.get(at).copied().unwrap_or(0))
+}
+
+/// The first four bytes as a word, most significant first.
+fn first_word(bytes: &[u8]) -> u32
+    ensures { result ≡ Images.first_word bytes.now }
+{
+    let upper = byte_at(bytes, 0) * 256 + byte_at(bytes, 1);
+    let lower = byte_at(bytes, 2) * 256 + byte_at(bytes, 3);
+    upper * 65536 + lower
+}
+
+/// The bytes after the first four.
+fn after_first_word(bytes: &[u8]) -> &[u8]
+    ensures { result.now ≡ drop 4 bytes.now }
+{
+    match bytes {
+        [_, _, _, _, rest @ ..] => rest,
+        _ => &[],
     }
-    word
 }
 
 /// A line that is being written: words of 0, or words.
@@ -158,70 +186,105 @@ enum Writing {
     Words(u32),
 }
 
-/// Ends the line that is being written.
-fn end_line(out: &mut Output, writing: Writing) -> Result<Writing, AllocError> {
+/// Adds so many words of 0.
+fn put_space(text: &mut Text, count: u32) -> Result<(), AllocError>
+    ensures { OnOk result (text.new ≡ text.old ++ Images.space_line count) }
+{
+    text.put(b"        .space ")?;
+    text.number(count)?;
+    text.put(b"\n")
+}
+
+/// Adds the end of the line that is being written.
+fn put_end(text: &mut Text, writing: Writing) -> Result<(), AllocError>
+    ensures { OnOk result (text.new ≡ text.old ++ Images.ended writing) }
+{
     match writing {
-        Writing::Nothing => {}
-        Writing::Zeros(count) => out.filled("        .space @\n", i64::from(count), &[])?,
-        Writing::Words(_) => out.put("\n")?,
+        Writing::Nothing => Ok(()),
+        Writing::Zeros(count) => put_space(text, count),
+        Writing::Words(_) => text.put(b"\n"),
     }
+}
+
+/// Ends the line that is being written.
+fn end_line(text: &mut Text, writing: Writing) -> Result<Writing, AllocError>
+    ensures text { OnOk result (text.new ≡ text.old ++ Images.ended writing) }
+    ensures writing { IfOk result (λ w. w ≡ Nothing) }
+{
+    put_end(text, writing)?;
     Ok(Writing::Nothing)
 }
 
 /// Goes on with a word of 0.
-fn put_zero(out: &mut Output, writing: Writing) -> Result<Writing, AllocError> {
+fn put_zero(text: &mut Text, writing: Writing) -> Result<Writing, AllocError>
+    ensures text { OnOk result (text.new ≡ text.old ++ Images.zero_front writing) }
+    ensures writing { IfOk result (λ w. w ≡ Images.zero_after writing) }
+{
     match writing {
         Writing::Zeros(count) => Ok(Writing::Zeros(count.saturating_add(1))),
         _ => {
-            end_line(out, writing)?;
+            end_line(text, writing)?;
             Ok(Writing::Zeros(1))
         }
     }
 }
 
-/// Goes on with a word that is not 0, after its line's front or a comma.
-fn before_word(out: &mut Output, writing: Writing) -> Result<Writing, AllocError> {
-    let more = match writing {
+/// How many words the line holds with one more, if it has room for it.
+fn more(writing: Writing) -> Option<u32>
+    ensures { result ≡ Images.more writing }
+{
+    match writing {
         Writing::Words(count) => words_with(count),
         _ => None,
-    };
-    match more {
+    }
+}
+
+/// Goes on with a word that is not 0, after its line's front or a comma.
+fn before_word(text: &mut Text, writing: Writing) -> Result<Writing, AllocError>
+    ensures text { OnOk result (text.new ≡ text.old ++ Images.word_front writing) }
+    ensures writing { IfOk result (λ w. w ≡ Images.word_after writing) }
+{
+    match more(writing) {
         Some(count) => {
-            out.put(",")?;
+            text.put(b",")?;
             Ok(Writing::Words(count))
         }
         None => {
-            end_line(out, writing)?;
-            out.put("        .word ")?;
+            end_line(text, writing)?;
+            text.put(b"        .word ")?;
             Ok(Writing::Words(1))
         }
     }
 }
 
 /// The label of a datum.
-fn put_object_label(
-    out: &mut Output,
-    program: &Program,
-    object: &Object,
-) -> Result<(), AllocError> {
+fn put_object_label(text: &mut Text, program: &Program, object: &Object) -> Result<(), AllocError>
+    ensures { OnOk result (text.new ≡ text.old ++ Images.object_label program.now object.now) }
+{
     if is_descriptor(program, object) {
-        out.put("d.")?;
+        text.put(b"d.")?;
     }
-    out.label(&program.symbols, object.symbol)
+    text.symbol(&program.symbols, object.symbol)?;
+    text.put(b":\n")
 }
 
 /// The label of the datum with a number.
-fn put_label(out: &mut Output, program: &Program, number: u32) -> Result<(), AllocError> {
+fn put_label(text: &mut Text, program: &Program, number: u32) -> Result<(), AllocError>
+    ensures { OnOk result (text.new ≡ text.old ++ Images.datum_label program.now number) }
+{
     match program.objects.get(number as usize) {
-        Some(object) => put_object_label(out, program, object),
+        Some(object) => put_object_label(text, program, object),
         None => Ok(()),
     }
 }
 
 /// Goes on with a number that is not 0.
-fn put_number(out: &mut Output, writing: Writing, word: u32) -> Result<Writing, AllocError> {
-    let writing = before_word(out, writing)?;
-    out.number(i64::from(word))?;
+fn put_number(text: &mut Text, writing: Writing, word: u32) -> Result<Writing, AllocError>
+    ensures text { OnOk result (text.new ≡ text.old ++ (Images.word_front writing ++ decimal word)) }
+    ensures writing { IfOk result (λ w. w ≡ Images.word_after writing) }
+{
+    let writing = before_word(text, writing)?;
+    text.number(word)?;
     Ok(writing)
 }
 
@@ -229,7 +292,9 @@ fn put_number(out: &mut Output, writing: Writing, word: u32) -> Result<Writing, 
 const LONGEST_SHARED: usize = 16;
 
 /// Whether the name of a symbol may share a line with other words.
-fn may_share(program: &Program, symbol: u32) -> bool {
+fn may_share(program: &Program, symbol: u32) -> bool
+    ensures { result ≡ Images.may_share program.now symbol }
+{
     match program.symbols.at(program.symbols.resolved(symbol)) {
         Some(symbol) => spelled_len(symbol.name) <= LONGEST_SHARED,
         None => true,
@@ -238,92 +303,131 @@ fn may_share(program: &Program, symbol: u32) -> bool {
 
 /// Goes on with the name of a symbol.
 fn put_name(
-    out: &mut Output,
+    text: &mut Text,
     program: &Program,
     writing: Writing,
     symbol: u32,
-) -> Result<Writing, AllocError> {
-    let writing = before_word(out, writing)?;
-    out.name(&program.symbols, symbol)?;
+) -> Result<Writing, AllocError>
+    ensures text { OnOk result (text.new ≡ text.old ++ Images.name_text program.now writing symbol) }
+    ensures writing { IfOk result (λ w. w ≡ Images.word_after writing) }
+{
+    let writing = before_word(text, writing)?;
+    text.symbol(&program.symbols, symbol)?;
     Ok(writing)
 }
 
 /// Goes on with the place of a symbol, which has a line of its own where its name is long.
 fn put_place(
-    out: &mut Output,
+    text: &mut Text,
     program: &Program,
     writing: Writing,
     symbol: u32,
-) -> Result<Writing, AllocError> {
+) -> Result<Writing, AllocError>
+    ensures text { OnOk result (text.new ≡ text.old ++ Images.place_text program.now writing symbol) }
+    ensures writing { IfOk result (λ w. w ≡ Images.place_after program.now writing symbol) }
+{
     if may_share(program, symbol) {
-        return put_name(out, program, writing, symbol);
+        return put_name(text, program, writing, symbol);
     }
-    let writing = end_line(out, writing)?;
-    let writing = put_name(out, program, writing, symbol)?;
-    end_line(out, writing)
+    let writing = end_line(text, writing)?;
+    let writing = put_name(text, program, writing, symbol)?;
+    end_line(text, writing)
 }
 
 /// Goes on with a word, which is the place of a symbol, or a number.
 fn put_word(
-    out: &mut Output,
+    text: &mut Text,
     program: &Program,
     writing: Writing,
     place: u32,
     word: u32,
-) -> Result<Writing, AllocError> {
+) -> Result<Writing, AllocError>
+    ensures text { OnOk result (text.new ≡ text.old ++ Images.word_text program.now writing (kept_number place) word) }
+    ensures writing { IfOk result (λ w. w ≡ Images.after_word program.now writing (kept_number place) word) }
+{
     match kept_number(place) {
-        Some(symbol) => put_place(out, program, writing, symbol),
-        None if word == 0 => put_zero(out, writing),
-        None => put_number(out, writing, word),
+        Some(symbol) => put_place(text, program, writing, symbol),
+        None if word == 0 => put_zero(text, writing),
+        None => put_number(text, writing, word),
     }
 }
 
 /// Ends the line that is being written where a datum begins, and adds the label of that.
 fn before_begin(
-    out: &mut Output,
+    text: &mut Text,
     program: &Program,
     writing: Writing,
     begins: u32,
-) -> Result<Writing, AllocError> {
+) -> Result<Writing, AllocError>
+    ensures text { OnOk result (text.new ≡ text.old ++ Images.begin_text program.now writing (kept_number begins)) }
+    ensures writing { IfOk result (λ w. w ≡ Images.after_begin writing (kept_number begins)) }
+{
     match kept_number(begins) {
         Some(number) => {
-            end_line(out, writing)?;
-            put_label(out, program, number)?;
+            end_line(text, writing)?;
+            put_label(text, program, number)?;
             Ok(Writing::Nothing)
         }
         None => Ok(writing),
     }
 }
 
-/// The words of an image, with the labels of the data.
-fn put_image(out: &mut Output, program: &Program, image: &Image) -> Result<(), AllocError> {
+/// Goes on with a word of an image, after the label of a datum that begins there.
+fn put_said(
+    text: &mut Text,
+    program: &Program,
+    writing: Writing,
+    said: Said,
+    word: u32,
+) -> Result<Writing, AllocError>
+    ensures text { OnOk result (text.new ≡ text.old ++ Images.said_text program.now writing said word) }
+    ensures writing { IfOk result (λ w. w ≡ Images.after_said program.now writing said word) }
+{
+    let writing = before_begin(text, program, writing, said.begins)?;
+    put_word(text, program, writing, said.place, word)
+}
+
+/// Goes on with the words of these bytes, of which this is said, with the labels of the data, and ends the last line.
+fn put_image(
+    text: &mut Text,
+    program: &Program,
+    bytes: &[u8],
+    said: &[Said],
+) -> Result<(), AllocError>
+    ensures { OnOk result (text.new ≡ text.old ++ Images.image_text program.now bytes.now Nothing said.now) }
+{
     let mut writing = Writing::Nothing;
-    for (i, said) in image.said.iter().enumerate() {
-        writing = before_begin(out, program, writing, said.begins)?;
-        let word = word_at(&image.bytes, i.saturating_mul(4));
-        writing = put_word(out, program, writing, said.place, word)?;
+    let mut left = bytes;
+    for one in said {
+        writing = put_said(text, program, writing, *one, first_word(left))?;
+        left = after_first_word(left);
     }
-    end_line(out, writing)?;
+    end_line(text, writing)?;
     Ok(())
 }
 
-/// A label of a number, and a word.
-fn put_named(out: &mut Output, label: &str, number: u32, value: u32) -> Result<(), AllocError> {
-    out.put(label)?;
-    out.number(i64::from(number))?;
-    out.filled(": .word @\n", i64::from(value), &[])
+/// A label, and a word.
+fn put_held(text: &mut Text, label: Word, value: u32) -> Result<(), AllocError>
+    ensures { OnOk result (text.new ≡ text.old ++ Data.held_text label value) }
+{
+    text.word(label)?;
+    text.put(b": .word ")?;
+    text.number(value)?;
+    text.put(b"\n")
 }
 
 /// Whether a routine keeps words of its own.
-fn keeps_words(out: &Output) -> bool {
+fn keeps_words(out: &Output) -> bool
+    ensures { result ≡ Data.keeps_words out.now.routines.items }
+{
     out.needs(Routine::SignedProduct) || out.needs(Routine::SignedQuotient)
 }
 
 /// How many words the tables of shifts have.
 fn shift_words(out: &Output) -> u64 {
     let mut count = 0u64;
-    for which in &ROUTINES {
-        if shift_name(*which).is_some() && out.needs(*which) {
+    for which in &SHIFTS {
+        if out.needs(*which) {
             count = count.saturating_add(32);
         }
     }
@@ -355,83 +459,201 @@ fn more_words(out: &Output) -> u64 {
         .saturating_add(1)
 }
 
-/// The label of a shift's table.
-fn shift_name(which: Routine) -> Option<&'static str> {
+/// The shift that a routine is for, if it is for one.
+fn shift_of(which: Routine) -> Option<Shift>
+    ensures { result ≡ Data.shift_of which }
+{
     match which {
-        Routine::ShiftLeft => Some("t.sll:\n"),
-        Routine::ShiftRight => Some("t.srl:\n"),
-        Routine::ShiftArithmetic => Some("t.sra:\n"),
-        Routine::RotateLeft => Some("t.rol:\n"),
+        Routine::ShiftLeft => Some(Shift::Left),
+        Routine::ShiftRight => Some(Shift::Right),
+        Routine::ShiftArithmetic => Some(Shift::Arithmetic),
+        Routine::RotateLeft => Some(Shift::Rotate),
         _ => None,
     }
 }
 
+/// A word that is the place of a shift's routine for a count.
+fn put_shifted(
+    text: &mut Text,
+    symbols: &Symbols,
+    routine: Routine,
+    count: u8,
+) -> Result<(), AllocError>
+    ensures { OnOk result (text.new ≡ text.old ++ Data.shifted_line routine count) }
+{
+    text.put(b"        .word ")?;
+    text.target(symbols, Target::Shifted { routine, count })?;
+    text.put(b"\n")
+}
+
 /// The table of a shift: its place for each count.
-fn put_shift_table(out: &mut Output, which: Routine, label: &str) -> Result<(), AllocError> {
-    out.put(label)?;
-    for count in 0..32u8 {
-        out.put("        .word ")?;
-        out.put(which.name())?;
-        out.filled(".n%\n", 0, &[count])?;
+fn put_shift_table(
+    text: &mut Text,
+    symbols: &Symbols,
+    which: Routine,
+    op: Shift,
+) -> Result<(), AllocError>
+    ensures { OnOk result (text.new ≡ text.old ++ Data.shift_table which op) }
+{
+    text.word(Word::Shifts(op))?;
+    text.put(b":\n")?;
+    put_places(text, symbols, which, 32)
+}
+
+/// The places of a shift for so many counts.
+fn put_places(
+    text: &mut Text,
+    symbols: &Symbols,
+    which: Routine,
+    counts: u8,
+) -> Result<(), AllocError>
+    ensures { OnOk result (text.new ≡ text.old ++ Data.shifted_lines which counts) }
+{
+    for count in 0..counts {
+        put_shifted(text, symbols, which, count)?;
     }
     Ok(())
 }
 
-/// The tables of the shifts that are called.
-fn put_shift_tables(out: &mut Output) -> Result<(), AllocError> {
-    for which in &ROUTINES {
-        if let Some(label) = shift_name(*which) {
-            if out.needs(*which) {
-                put_shift_table(out, *which, label)?;
-            }
-        }
+/// The table of a routine, if it is one of a shift that is called.
+fn put_table_of(
+    text: &mut Text,
+    symbols: &Symbols,
+    out: &Output,
+    which: Routine,
+) -> Result<(), AllocError>
+    ensures { OnOk result (text.new ≡ text.old ++ Data.routine_table out.now.routines.items which) }
+{
+    match shift_of(which) {
+        Some(op) if out.needs(which) => put_shift_table(text, symbols, which, op),
+        _ => Ok(()),
+    }
+}
+
+/// The tables of those of these routines that are shifts and called.
+fn put_shift_tables(
+    text: &mut Text,
+    symbols: &Symbols,
+    out: &Output,
+    routines: &[Routine],
+) -> Result<(), AllocError>
+    ensures { OnOk result (text.new ≡ text.old ++ flat_map (Data.routine_table out.now.routines.items) routines.now) }
+{
+    for which in routines {
+        put_table_of(text, symbols, out, *which)?;
     }
     Ok(())
 }
 
-/// A table that statements read.
-fn put_mask(out: &mut Output, mask: Mask) -> Result<(), AllocError> {
-    out.put(mask.name())?;
-    out.put(":\n")?;
-    for word in &mask.words() {
-        out.filled("        .word @\n", *word, &[])?;
+/// A word on a line of its own.
+fn put_line(text: &mut Text, word: u32) -> Result<(), AllocError>
+    ensures { OnOk result (text.new ≡ text.old ++ Data.word_line word) }
+{
+    text.put(b"        .word ")?;
+    text.number(word)?;
+    text.put(b"\n")
+}
+
+/// Words on lines of their own.
+fn put_lines(text: &mut Text, words: &[u32]) -> Result<(), AllocError>
+    ensures { OnOk result (text.new ≡ text.old ++ flat_map Data.word_line words.now) }
+{
+    for word in words {
+        put_line(text, *word)?;
     }
     Ok(())
 }
 
-/// The tables that statements read.
-fn put_masks(out: &mut Output) -> Result<(), AllocError> {
-    for mask in &MASKS {
-        if out.needs_mask(*mask) {
-            put_mask(out, *mask)?;
-        }
+/// A table that statements read, if they do.
+fn put_mask(text: &mut Text, out: &Output, mask: Mask) -> Result<(), AllocError>
+    ensures { OnOk result (text.new ≡ text.old ++ Data.mask_table out.now.masks.items mask) }
+{
+    if !out.needs_mask(mask) {
+        return Ok(());
+    }
+    text.word(Word::Mask(mask))?;
+    text.put(b":\n")?;
+    put_lines(text, &mask.words())
+}
+
+/// Those of these tables that statements read.
+fn put_masks(text: &mut Text, out: &Output, masks: &[Mask]) -> Result<(), AllocError>
+    ensures { OnOk result (text.new ≡ text.old ++ flat_map (Data.mask_table out.now.masks.items) masks.now) }
+{
+    for mask in masks {
+        put_mask(text, out, *mask)?;
     }
     Ok(())
 }
 
-/// The tables and words that routines and statements need.
-fn put_tables(out: &mut Output) -> Result<(), AllocError> {
-    put_shift_tables(out)?;
-    put_masks(out)?;
+/// The words that routines keep between calls, if one does.
+fn put_kept(text: &mut Text, out: &Output) -> Result<(), AllocError>
+    ensures { OnOk result (text.new ≡ text.old ++ Data.kept_text out.now.routines.items) }
+{
     if keeps_words(out) {
-        out.put("m.link: .word 0\nm.x: .word 0\nm.y: .word 0\n")?;
+        text.put(b"m.link: .word 0\nm.x: .word 0\nm.y: .word 0\n")?;
     }
     Ok(())
 }
 
-/// The numbers that statements load, and the addresses after all data, which end here.
-fn put_numbers(out: &mut Output, end: u32) -> Result<(), AllocError> {
+/// The number with an index among those that statements load, if there is one.
+fn put_number_at(text: &mut Text, out: &Output, i: usize) -> Result<(), AllocError>
+    ensures { OnOk result ((n : ℕ) → slice_get out.now.numbers.keys i ≡ Some n → text.new ≡ text.old ++ Data.number_text n) }
+{
+    match out.numbers.get_index(i).copied() {
+        Some(number) => put_held(text, Word::Number(number), number),
+        None => Ok(()),
+    }
+}
+
+/// The numbers that statements load.
+fn put_numbers(text: &mut Text, out: &Output) -> Result<(), AllocError>
+    ensures { OnOk result (text.new ≡ text.old ++ flat_map Data.number_text out.now.numbers.keys) }
+{
     for i in 0..out.numbers.len() {
-        if let Some(number) = out.numbers.get_index(i).copied() {
-            put_named(out, "k.", number, number)?;
-        }
+        put_number_at(text, out, i)?;
     }
+    Ok(())
+}
+
+/// The address with an index among those after all data, which end here, if there is one.
+fn put_end_at(text: &mut Text, out: &Output, end: u32, i: usize) -> Result<(), AllocError>
+    ensures { OnOk result ((n : ℕ) → slice_get out.now.ends.keys i ≡ Some n → text.new ≡ text.old ++ Data.end_text end n) }
+{
+    match out.ends.get_index(i).copied() {
+        Some(addend) => put_held(text, Word::End(addend), end.wrapping_add(addend)),
+        None => Ok(()),
+    }
+}
+
+/// The addresses after all data, which end here.
+fn put_ends(text: &mut Text, out: &Output, end: u32) -> Result<(), AllocError>
+    ensures { OnOk result (text.new ≡ text.old ++ flat_map (Data.end_text end) out.now.ends.keys) }
+{
     for i in 0..out.ends.len() {
-        if let Some(number) = out.ends.get_index(i).copied() {
-            put_named(out, "k.end.", number, end.wrapping_add(number))?;
-        }
+        put_end_at(text, out, end, i)?;
     }
-    out.filled("k.stack: .word @\n", i64::from(LIMIT - STACK_GAP), &[])
+    Ok(())
+}
+
+/// The routines of shifts.
+static SHIFTS: [Routine; 4] = [
+    Routine::ShiftLeft,
+    Routine::ShiftRight,
+    Routine::ShiftArithmetic,
+    Routine::RotateLeft,
+];
+
+/// The words that routines and statements need, where all data end here.
+fn put_added(text: &mut Text, symbols: &Symbols, out: &Output, end: u32) -> Result<(), AllocError>
+    ensures { OnOk result (text.new ≡ text.old ++ Data.added_text out.now end) }
+{
+    put_shift_tables(text, symbols, out, &SHIFTS)?;
+    put_masks(text, out, &MASKS)?;
+    put_kept(text, out)?;
+    put_numbers(text, out)?;
+    put_ends(text, out, end)?;
+    put_held(text, Word::Stack, LIMIT - STACK_GAP)
 }
 
 /// How far below the end of the memory the stack begins.
@@ -444,30 +666,29 @@ pub fn end_of(out: &Output, behind: u64) -> u64
     behind.saturating_add(more_words(out).saturating_mul(4))
 }
 
-/// Adds an image and what follows it, up to the byte `end`.
-fn put_words(
-    out: &mut Output,
-    program: &Program,
-    image: &Image,
-    end: u32,
-) -> Result<(), AllocError> {
-    if out.input {
-        out.put(".input\n")?;
+/// The beginning of the data.
+fn put_front(text: &mut Text, input: bool) -> Result<(), AllocError>
+    ensures { OnOk result (text.new ≡ text.old ++ Data.front_text input) }
+{
+    if input {
+        text.put(b".input\n")?;
     }
-    out.put(".data\n")?;
-    put_image(out, program, image)?;
-    put_tables(out)?;
-    put_numbers(out, end)
+    text.put(b".data\n")
 }
 
 /// Adds the data, where those of the program end before the byte `behind`, and all before `end`.
-pub fn put_data(
+pub(crate) fn put_data(
     alloc: Global,
-    out: &mut Output,
+    text: &mut Text,
     program: &Program,
+    out: &Output,
     behind: u32,
     end: u32,
-) -> Result<(), AllocError> {
+) -> Result<(), AllocError>
+    ensures { OnOk result (IsData program.now out.now end text.old text.new) }
+{
     let image = image_of(alloc, program, behind, end)?;
-    put_words(out, program, &image, end)
+    put_front(text, out.input)?;
+    put_image(text, program, &image.bytes, &image.said)?;
+    put_added(text, &program.symbols, out, end)
 }

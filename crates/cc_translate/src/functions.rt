@@ -2,49 +2,17 @@
 
 use crate::memory::SECOND;
 use crate::statements::translate_statement;
-use cc_emit::Output;
+use cc_emit::{Line, Output, Target};
 use cc_lines::{Instruction, LinkFrom, Register, Width};
 use cc_plan::{Plan, Planned, plans_of};
 use cc_program::{Function, Item, Program};
-use cc_rules::file_key;
 use std::alloc::{AllocError, Global};
-
-/// The longest name of a source file that is written.
-const LONGEST_NAME: usize = 160;
-
-/// Adds the name of a source file, which is in quotes.
-fn put_file(out: &mut Output, quoted: &[u8]) -> Result<(), AllocError> {
-    out.put("; ")?;
-    for byte in quoted {
-        if *byte != b'"' {
-            out.text.push(*byte)?;
-        }
-    }
-    Ok(())
-}
-
-/// Writes the line of the source file that the next statements come from.
-fn tell_line(
-    out: &mut Output,
-    program: &Program,
-    unit: u32,
-    file: u32,
-    line: u32,
-) -> Result<(), AllocError> {
-    match program.files.get(&file_key(unit, file)) {
-        Some(name) if name.len() <= LONGEST_NAME => {
-            put_file(out, name)?;
-            out.filled(":@\n", i64::from(line), &[])
-        }
-        _ => Ok(()),
-    }
-}
 
 /// Adds a label that something names.
 fn put_label(out: &mut Output, program: &Program, label: u32) -> Result<(), AllocError> {
     if program.symbols.is_used(label) {
         out.first = None;
-        out.label(&program.symbols, label)?;
+        out.push(Line::Mark(Target::Symbol(label)))?;
     }
     Ok(())
 }
@@ -65,7 +33,11 @@ fn put_item(
                 return Ok(());
             }
             *told = (file, line);
-            tell_line(out, program, function.unit, file, line)
+            out.push(Line::Told {
+                unit: function.unit,
+                file,
+                line,
+            })
         }
         Item::Code {
             instruction,
@@ -166,7 +138,7 @@ fn put_items(
     plans: &[Plan],
 ) -> Result<(), AllocError> {
     out.first = None;
-    out.label(&program.symbols, function.symbol)?;
+    out.push(Line::Mark(Target::Symbol(function.symbol)))?;
     let mut told = (0u32, 0u32);
     for (number, (item, plan)) in items.iter().zip(plans.iter()).enumerate() {
         let item = item_at(items, plans, number, *item);

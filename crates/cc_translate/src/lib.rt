@@ -12,4 +12,4 @@ mod statements;
 mod translating;
 
 pub use error::TranslateError;
-pub use translating::translate;
+pub use translating::{lines_of, translate};

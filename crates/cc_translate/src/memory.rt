@@ -1,10 +1,11 @@
 //! Loads and stores.
 
-use cc_emit::{Mask, Output};
+use cc_emit::{
+    Computed, Line, Mask, Output, Plain, Transfer, Word, compute_line, is_short, shift_line,
+};
 use cc_lines::{Register, Width};
 use cc_plan::Place;
 use cc_program::Function;
-use cc_rules::signed;
 use std::alloc::AllocError;
 
 /// The first of the registers for what a statement needs between its words. Texts of several statements name them as r1, r26 and
@@ -36,11 +37,6 @@ enum Part {
     By(u8),
 }
 
-/// Whether a statement holds a number.
-fn is_short(number: i64) -> bool {
-    number >= -65536 && number <= 65535
-}
-
 /// Puts a number into a register. The first one may hold it already, from an earlier statement.
 pub(crate) fn constant(out: &mut Output, value: u32, rd: u8) -> Result<(), AllocError> {
     if rd == FIRST {
@@ -54,23 +50,21 @@ pub(crate) fn constant(out: &mut Output, value: u32, rd: u8) -> Result<(), Alloc
 
 /// Loads a number into a register.
 fn load_constant(out: &mut Output, value: u32, rd: u8) -> Result<(), AllocError> {
-    let number = signed(value);
-    if is_short(number) {
-        return out.statement_with("addi r0,#@,r%", number, &[rd]);
+    if !is_short(value.cast_signed()) {
+        out.keep_number(value)?;
     }
-    out.keep_number(value)?;
-    out.statement_with("ld k.@[r0],r%", i64::from(value), &[rd])
+    out.push(Line::Constant { value, rd })
 }
 
 /// Adds a number to a register, which is not register 0 where the number is long.
 fn add_number(out: &mut Output, rs: u8, value: u32, rd: u8) -> Result<(), AllocError> {
-    let number = signed(value);
+    let number = value.cast_signed();
     if is_short(number) {
-        return out.statement_with("addi r%,#@,r%", number, &[rs, rd]);
+        return out.plain(Plain::Addi { rs, number, rd });
     }
     let with = if rd == rs || rd == 0 { FIRST } else { rd };
     constant(out, value, with)?;
-    out.statement("add r%,r%,r%", &[rs, with, rd])
+    out.compute(Computed::Add, rs, with, rd)
 }
 
 /// Adds a number to a register.
@@ -90,13 +84,17 @@ pub(crate) fn copy(out: &mut Output, rs: u8, rd: u8) -> Result<(), AllocError> {
     if rs == rd || rd == 0 {
         return Ok(());
     }
-    out.statement("mov r%,r%", &[rs, rd])
+    out.plain(Plain::Move { rs, rd })
 }
 
 /// Computes the address of a far datum, and a quarter of it.
 fn far_spot(out: &mut Output, base: u8, bytes: u32) -> Result<Spot, AllocError> {
     add_constant(out, base, bytes, FIRST)?;
-    out.statement("asr r1,#2,r26", &[])?;
+    out.plain(Plain::Asr {
+        rs: FIRST,
+        count: 2,
+        rd: SECOND,
+    })?;
     Ok(Spot {
         base: SECOND,
         words: 0,
@@ -126,12 +124,20 @@ fn load(out: &mut Output, spot: Spot, rd: u8) -> Result<(), AllocError> {
     if spot.base == 0 && spot.words == INPUT_WORD {
         out.input = true;
     }
-    out.statement_with("ld @[r%],r%", signed(spot.words), &[spot.base, rd])
+    out.plain(Plain::Load {
+        words: spot.words.cast_signed(),
+        base: spot.base,
+        rd,
+    })
 }
 
 /// Stores the word of a spot.
 fn store(out: &mut Output, spot: Spot, rs: u8) -> Result<(), AllocError> {
-    out.statement_with("st @[r%],r%", signed(spot.words), &[spot.base, rs])
+    out.plain(Plain::Store {
+        words: spot.words.cast_signed(),
+        base: spot.base,
+        rs,
+    })
 }
 
 /// Whether this is the load of the link that a function saved: the word is cleared behind it, as later code may use it byte
@@ -168,62 +174,68 @@ fn part_register(part: Part, rd: u8) -> u8 {
 fn turn_to_top(out: &mut Output, part: Part, word: u8) -> Result<(), AllocError> {
     match part {
         Part::Byte(0) => Ok(()),
-        Part::Byte(byte) => {
-            let bits = 32 - 8 * i64::from(byte);
-            out.statement_with("sh r0,r%,#@,r%", bits, &[word, word])
-        }
-        Part::By(by) => out.statement("rotlb r%,r%,r%", &[word, by, word]),
+        Part::Byte(byte) => out.shift(0, word, 32u8.saturating_sub(byte.saturating_mul(8)), word),
+        Part::By(by) => out.compute(Computed::Rotlb, word, by, word),
     }
 }
 
-/// Loads a part of a word, which a statement takes from the top of the turned word.
-fn load_part(out: &mut Output, rd: u8, place: Place, taking: &str) -> Result<(), AllocError> {
+/// Loads a part of a word, so many bits less than the word, which a statement takes from the top of the turned word.
+fn load_part(
+    out: &mut Output,
+    rd: u8,
+    place: Place,
+    signed: bool,
+    count: u8,
+) -> Result<(), AllocError> {
     let spot = spot_of(out, place)?;
     let word = part_register(spot.part, rd);
     load(out, spot, word)?;
     turn_to_top(out, spot.part, word)?;
-    out.statement(taking, &[word, rd])
+    if signed {
+        return out.plain(Plain::Asr {
+            rs: word,
+            count,
+            rd,
+        });
+    }
+    out.shift(word, 0, count, rd)
 }
 
 /// Turns a register to the right by so many bits.
-fn turn(out: &mut Output, register: u8, bits: i64) -> Result<(), AllocError> {
+fn turn(out: &mut Output, register: u8, bits: u8) -> Result<(), AllocError> {
     if bits == 0 || bits == 32 {
         return Ok(());
     }
-    out.statement_with("sh r%,r%,#@,r%", bits, &[register, register, register])
+    out.shift(register, register, bits, register)
 }
 
 /// Puts so many low bits of a register into a word, from the byte with this number on.
 fn insert_at(out: &mut Output, word: u8, rs: u8, byte: u8, bits: u8) -> Result<(), AllocError> {
-    let before = 8 * i64::from(byte);
-    turn(out, word, 32 - i64::from(bits) - before)?;
-    out.statement("sh r%,r%,#%,r%", &[word, rs, bits, word])?;
+    let before = byte.saturating_mul(8);
+    turn(out, word, 32u8.saturating_sub(bits.saturating_add(before)))?;
+    out.shift(word, rs, bits, word)?;
     turn(out, word, before)
 }
 
 /// Puts the low byte of a register into a word, at the byte that the low bits of another register tell.
 fn insert_byte_by(out: &mut Output, word: u8, rs: u8, by: u8) -> Result<(), AllocError> {
-    out.lines(
-        "        rotlb r%,r%,r%
-        sh r0,r%,#24,r%
-        sh r%,r%,#8,r%
-        sub r0,r%,r1
-        rotlb r%,r1,r%
-",
-        &[word, by, word, word, word, word, rs, word, by, word, word],
-    )
+    out.push_all(&[
+        compute_line(Computed::Rotlb, word, by, word),
+        shift_line(0, word, 24, word),
+        shift_line(word, rs, 8, word),
+        compute_line(Computed::Sub, 0, by, 1),
+        compute_line(Computed::Rotlb, word, 1, word),
+    ])
 }
 
 /// Puts the low half of a register into a word, from the byte on that the low bits of another register tell.
 fn insert_half_by(out: &mut Output, word: u8, rs: u8, by: u8) -> Result<(), AllocError> {
-    out.lines(
-        "        rotlb r%,r%,r%
-        sh r0,r%,#16,r%
-        sh r%,r%,#16,r%
-        rotlb r%,r%,r%
-",
-        &[word, by, word, word, word, word, rs, word, word, by, word],
-    )
+    out.push_all(&[
+        compute_line(Computed::Rotlb, word, by, word),
+        shift_line(0, word, 16, word),
+        shift_line(word, rs, 16, word),
+        compute_line(Computed::Rotlb, word, by, word),
+    ])
 }
 
 /// Puts so many low bits of a register, 8 or 16, into a word.
@@ -244,85 +256,116 @@ fn store_part(out: &mut Output, rs: u8, place: Place, bits: u8) -> Result<(), Al
     store(out, spot, word)
 }
 
-/// `lwl`: it turns the word at the address in r1. A word of a table says which bits the register keeps.
-const LOAD_LEFT: &str = "        asr r1,#2,r26
-        ld 0[r26],r26
-        rotlb r26,r1,r26
-        sh r0,r1,#2,r27
-        sh r27,r0,#30,r27
-        ld t.lwl[r27],r27
-";
-
-/// `lwr` likewise.
-const LOAD_RIGHT: &str = "        asr r1,#2,r26
-        ld 0[r26],r26
-        addi r1,#1,r27
-        rotlb r26,r27,r26
-        sh r0,r1,#2,r27
-        sh r27,r0,#30,r27
-        ld t.lwr[r27],r27
-";
-
-/// What both do then: the register keeps these bits, and has the others of the turned word.
-const LOAD_MASKED: &str = "        and r%,r27,r%
-        bic r26,r27,r26
-        or r%,r26,r%
-";
-
-/// `swl`: it turns the register for the address in r1. A word of a table says which bits come from it.
-const STORE_LEFT: &str = "        sub r0,r1,r26
-        rotlb r%,r26,r26
-        sh r0,r1,#2,r27
-        sh r27,r0,#30,r27
-        ld t.swl[r27],r27
-";
-
-/// `swr` likewise.
-const STORE_RIGHT: &str = "        not r1,r26
-        rotlb r%,r26,r26
-        sh r0,r1,#2,r27
-        sh r27,r0,#30,r27
-        ld t.swr[r27],r27
-";
-
-/// What both do then: they store these bits of the turned register, and the others of the word that is there.
-const STORE_MASKED: &str = "        asr r1,#2,r1
-        ld 0[r1],r22
-        and r26,r27,r26
-        bic r22,r27,r22
-        or r26,r22,r26
-        st 0[r1],r26
-";
-
-/// The statements that `lwl`, `lwr`, `swl` or `swr` begins with.
-fn unaligned_text(mask: Mask) -> &'static str {
-    match mask {
-        Mask::LoadLeft => LOAD_LEFT,
-        Mask::LoadRight => LOAD_RIGHT,
-        Mask::StoreLeft => STORE_LEFT,
-        Mask::StoreRight => STORE_RIGHT,
-    }
+/// What takes the word of a table for the address in r1 to r27: it says which bits stay.
+fn mask_lines(mask: Mask) -> [Line; 3] {
+    [
+        shift_line(0, 1, 2, 27),
+        shift_line(27, 0, 30, 27),
+        Line::Take {
+            word: Word::Mask(mask),
+            base: 27,
+            rd: 27,
+        },
+    ]
 }
 
-/// What `lwl`, `lwr`, `swl` and `swr` begin with.
-fn turn_unaligned(out: &mut Output, place: Place, rs: u8, mask: Mask) -> Result<(), AllocError> {
-    if let Place::Far { base, bytes } = place {
-        add_constant(out, base, bytes, FIRST)?;
+/// What `lwl` and `lwr` begin with: they load the word at the address in r1.
+fn load_unturned() -> [Line; 2] {
+    [
+        Line::Plain(Plain::Asr {
+            rs: 1,
+            count: 2,
+            rd: 26,
+        }),
+        Line::Plain(Plain::Load {
+            words: 0,
+            base: 26,
+            rd: 26,
+        }),
+    ]
+}
+
+/// `lwl` and `lwr` turn the word at the address in r1.
+fn load_turned(out: &mut Output, mask: Mask) -> Result<(), AllocError> {
+    out.push_all(&load_unturned())?;
+    if mask == Mask::LoadLeft {
+        return out.compute(Computed::Rotlb, 26, 1, 26);
     }
-    out.need_mask(mask)?;
-    out.lines(unaligned_text(mask), &[rs])
+    out.plain(Plain::Addi {
+        rs: 1,
+        number: 1,
+        rd: 27,
+    })?;
+    out.compute(Computed::Rotlb, 26, 27, 26)
+}
+
+/// `swl` and `swr` turn the register for the address in r1.
+fn store_turned(out: &mut Output, rs: u8, mask: Mask) -> Result<(), AllocError> {
+    if mask == Mask::StoreLeft {
+        out.compute(Computed::Sub, 0, 1, 26)?;
+    } else {
+        out.plain(Plain::Not { rs: 1, rd: 26 })?;
+    }
+    out.compute(Computed::Rotlb, rs, 26, 26)
+}
+
+/// What `lwl` and `lwr` end with: the register keeps the bits of r27, and has the others of the turned word.
+fn load_masked(out: &mut Output, rd: u8) -> Result<(), AllocError> {
+    out.push_all(&[
+        compute_line(Computed::And, rd, 27, rd),
+        compute_line(Computed::Bic, 26, 27, 26),
+        compute_line(Computed::Or, rd, 26, rd),
+    ])
+}
+
+/// What `swl` and `swr` end with: they store the bits of r27 of the turned register, and the others of the word that is there.
+fn store_masked(out: &mut Output) -> Result<(), AllocError> {
+    out.push_all(&[
+        Line::Plain(Plain::Asr {
+            rs: 1,
+            count: 2,
+            rd: 1,
+        }),
+        Line::Plain(Plain::Load {
+            words: 0,
+            base: 1,
+            rd: 22,
+        }),
+        compute_line(Computed::And, 26, 27, 26),
+        compute_line(Computed::Bic, 22, 27, 22),
+        compute_line(Computed::Or, 26, 22, 26),
+        Line::Plain(Plain::Store {
+            words: 0,
+            base: 1,
+            rs: 26,
+        }),
+    ])
+}
+
+/// The address of `lwl`, `lwr`, `swl` or `swr` in r1.
+fn unaligned_address(out: &mut Output, place: Place) -> Result<(), AllocError> {
+    match place {
+        Place::Far { base, bytes } => add_constant(out, base, bytes, FIRST),
+        _ => Ok(()),
+    }
 }
 
 /// `lwl` and `lwr`.
 fn load_unaligned(out: &mut Output, rd: u8, place: Place, mask: Mask) -> Result<(), AllocError> {
-    turn_unaligned(out, place, rd, mask)?;
-    out.lines(LOAD_MASKED, &[rd; 4])
+    unaligned_address(out, place)?;
+    out.need_mask(mask)?;
+    load_turned(out, mask)?;
+    out.push_all(&mask_lines(mask))?;
+    load_masked(out, rd)
 }
 
 /// `swl` and `swr`.
 fn store_unaligned(out: &mut Output, rs: u8, place: Place, mask: Mask) -> Result<(), AllocError> {
-    turn_unaligned(out, place, rs, mask)?;
-    out.lines(STORE_MASKED, &[])
+    unaligned_address(out, place)?;
+    out.need_mask(mask)?;
+    store_turned(out, rs, mask)?;
+    out.push_all(&mask_lines(mask))?;
+    store_masked(out)
 }
 
 /// A load from a place, which the base and the offset without the symbol's address were told of.
@@ -336,10 +379,8 @@ pub(crate) fn load_statement(
     place: Place,
 ) -> Result<(), AllocError> {
     match width {
-        Width::Byte { signed: true } => load_part(out, rd.0, place, "asr r%,#24,r%"),
-        Width::Byte { signed: false } => load_part(out, rd.0, place, "sh r%,r0,#24,r%"),
-        Width::Half { signed: true } => load_part(out, rd.0, place, "asr r%,#16,r%"),
-        Width::Half { signed: false } => load_part(out, rd.0, place, "sh r%,r0,#16,r%"),
+        Width::Byte { signed } => load_part(out, rd.0, place, signed, 24),
+        Width::Half { signed } => load_part(out, rd.0, place, signed, 16),
         Width::Word => load_word(out, place, rd, restores_link(function, rd, base, offset)),
         Width::Left => load_unaligned(out, rd.0, place, Mask::LoadLeft),
         Width::Right => load_unaligned(out, rd.0, place, Mask::LoadRight),
@@ -372,14 +413,17 @@ pub(crate) fn store_statement(
 pub(crate) fn call_at(out: &mut Output, place: Place) -> Result<(), AllocError> {
     let spot = spot_of(out, place)?;
     load(out, spot, SECOND)?;
-    out.statement("callr r%,r31", &[SECOND])
+    out.transfer(Transfer::CallReg {
+        rs: SECOND,
+        link: Register::LINK.0,
+    })
 }
 
 /// Goes to the label whose place the word at a place holds.
 pub(crate) fn jump_at(out: &mut Output, place: Place) -> Result<(), AllocError> {
     let spot = spot_of(out, place)?;
     load(out, spot, SECOND)?;
-    out.statement("jr r%", &[SECOND])
+    out.transfer(Transfer::JumpReg(SECOND))
 }
 
 /// The first word that a program may load and store, but for those of input and console.

@@ -4,7 +4,9 @@ use crate::memory::{
     FIRST, SECOND, add_constant, call_at, constant, copy, is_misaligned, is_null, jump_at,
     load_statement, store_statement,
 };
-use cc_emit::{Output, Routine};
+use cc_emit::{
+    Computed, Line, Output, Plain, Routine, Target, Transfer, Word, compute_line, shift_line,
+};
 use cc_lines::{
     Condition, Instruction, LinkFrom, Long, Operation, Refusal, Register, Shift, Source, Special,
     Width,
@@ -26,67 +28,72 @@ fn operand(out: &mut Output, second: Source) -> Result<u8, AllocError> {
     }
 }
 
-/// The statement of a branch, before its label.
-fn branch_text(condition: Condition) -> &'static str {
-    match condition {
-        Condition::Equal => "beq r%,r%,",
-        Condition::NotEqual => "bne r%,r%,",
-        Condition::Less => "blt r%,r%,",
-        Condition::NotLess => "bge r%,r%,",
-        Condition::Greater => "bgt r%,r%,",
-        Condition::NotGreater => "ble r%,r%,",
-        Condition::Lower => "blo r%,r%,",
-        Condition::NotLower => "bhs r%,r%,",
-        Condition::Higher => "bhi r%,r%,",
-        Condition::NotHigher => "blos r%,r%,",
-    }
+/// A branch to a place.
+fn branch_to(out: &mut Output, found: Comparison, to: Target) -> Result<(), AllocError> {
+    let b = operand(out, found.second)?;
+    out.transfer(Transfer::Branch {
+        condition: found.condition,
+        a: found.rs.0,
+        b,
+        to,
+    })
 }
 
 /// A branch to a symbol.
-fn branch(
-    out: &mut Output,
-    program: &Program,
-    found: Comparison,
-    symbol: u32,
-) -> Result<(), AllocError> {
-    let b = operand(out, found.second)?;
-    out.statement_to(
-        branch_text(found.condition),
-        &[found.rs.0, b],
-        &program.symbols,
-        symbol,
-        "\n",
-    )
+fn branch(out: &mut Output, found: Comparison, symbol: u32) -> Result<(), AllocError> {
+    branch_to(out, found, Target::Symbol(symbol))
 }
 
-/// What gives 1 where a register is 0, else 0.
-const IS_ZERO: &str = "        addi r%,#-1,r26
-        bic r26,r%,r26
-        sh r26,r0,#31,r%
-";
+/// 1 where a register is 0, else 0.
+fn set_if_zero(out: &mut Output, a: u8, rd: u8) -> Result<(), AllocError> {
+    out.push_all(&[
+        Line::Plain(Plain::Addi {
+            rs: a,
+            number: -1,
+            rd: 26,
+        }),
+        compute_line(Computed::Bic, 26, a, 26),
+        shift_line(26, 0, 31, rd),
+    ])
+}
 
-/// What gives 1 where a register is not 0, else 0.
-const IS_NOT_ZERO: &str = "        sub r0,r%,r26
-        or r26,r%,r26
-        sh r26,r0,#31,r%
-";
+/// 1 where a register is not 0, else 0.
+fn set_if_not_zero(out: &mut Output, a: u8, rd: u8) -> Result<(), AllocError> {
+    out.push_all(&[
+        compute_line(Computed::Sub, 0, a, 26),
+        compute_line(Computed::Or, 26, a, 26),
+        shift_line(26, 0, 31, rd),
+    ])
+}
+
+/// 1 where a condition holds of two registers, else 0, by a branch.
+fn set_over(
+    out: &mut Output,
+    condition: Condition,
+    a: u8,
+    b: u8,
+    rd: u8,
+) -> Result<(), AllocError> {
+    let to = Target::Skip(out.skip());
+    out.push_all(&[
+        Line::Constant { value: 1, rd },
+        Line::Transfer(Transfer::Branch {
+            condition,
+            a,
+            b,
+            to,
+        }),
+        Line::Plain(Plain::Move { rs: 0, rd }),
+        Line::Mark(to),
+    ])
+}
 
 /// 1 where a condition holds, else 0, by a branch.
 fn set_by_branch(out: &mut Output, rd: u8, found: Comparison) -> Result<(), AllocError> {
     let a = found.rs.0;
     let b = operand(out, found.second)?;
     let into = if rd == a || rd == b { SECOND } else { rd };
-    let label = i64::from(out.fresh());
-    out.lines("        addi r0,#1,r%\n        ", &[into])?;
-    out.filled(branch_text(found.condition), 0, &[a, b])?;
-    out.lines_with(
-        "_.s@
-        mov r0,r%
-_.s@:
-",
-        label,
-        &[into],
-    )?;
+    set_over(out, found.condition, a, b, into)?;
     copy(out, into, rd)
 }
 
@@ -99,26 +106,26 @@ fn is_zero(second: Source) -> bool {
 fn set(out: &mut Output, rd: u8, found: Comparison) -> Result<(), AllocError> {
     let a = found.rs.0;
     match found.condition {
-        Condition::Less if is_zero(found.second) => out.statement("sh r%,r0,#31,r%", &[a, rd]),
-        Condition::Equal if is_zero(found.second) => out.lines(IS_ZERO, &[a, a, rd]),
-        Condition::NotEqual if is_zero(found.second) => out.lines(IS_NOT_ZERO, &[a, a, rd]),
+        Condition::Less if is_zero(found.second) => out.shift(a, 0, 31, rd),
+        Condition::Equal if is_zero(found.second) => set_if_zero(out, a, rd),
+        Condition::NotEqual if is_zero(found.second) => set_if_not_zero(out, a, rd),
         _ => set_by_branch(out, rd, found),
     }
 }
 
 /// Turns each bit of a word.
 fn complement(out: &mut Output, rs: u8, rd: u8) -> Result<(), AllocError> {
-    out.statement("not r%,r%", &[rs, rd])
+    out.plain(Plain::Not { rs, rd })
 }
 
 /// What is computed of two registers, but for `nor` and comparisons.
-fn compute_text(op: Operation) -> &'static str {
+fn computed(op: Operation) -> Computed {
     match op {
-        Operation::Sub => "sub r%,r%,r%",
-        Operation::And => "and r%,r%,r%",
-        Operation::Or => "or r%,r%,r%",
-        Operation::Xor => "xor r%,r%,r%",
-        _ => "add r%,r%,r%",
+        Operation::Sub => Computed::Sub,
+        Operation::And => Computed::And,
+        Operation::Or => Computed::Or,
+        Operation::Xor => Computed::Xor,
+        _ => Computed::Add,
     }
 }
 
@@ -139,7 +146,7 @@ fn nor(out: &mut Output, rd: u8, rs: u8, rt: u8) -> Result<(), AllocError> {
     if rs == 0 {
         return complement(out, rt, rd);
     }
-    out.statement("or r%,r%,r%", &[rs, rt, rd])?;
+    out.compute(Computed::Or, rs, rt, rd)?;
     complement(out, rd, rd)
 }
 
@@ -157,7 +164,7 @@ fn compute_registers(
     if op == Operation::Nor {
         return nor(out, rd, rs, rt);
     }
-    out.statement(compute_text(op), &[rs, rt, rd])
+    out.compute(computed(op), rs, rt, rd)
 }
 
 /// What is computed of a register and a second operand.
@@ -209,7 +216,11 @@ fn moved_by(op: Operation, rs: Register, second: Source) -> Option<u32> {
 
 /// A quarter of the stack pointer, after what gave that.
 fn divide_stack(out: &mut Output) -> Result<(), AllocError> {
-    out.statement("asr r29,#2,r%", &[STACK_WORDS])
+    out.plain(Plain::Asr {
+        rs: Register::STACK.0,
+        count: 2,
+        rd: STACK_WORDS,
+    })
 }
 
 /// How many bytes below the lowest address of the stack a function may take that calls no other.
@@ -226,11 +237,22 @@ fn check_stack(out: &mut Output, program: &Program) -> Result<(), AllocError> {
     let Some(limit) = program.stack_limit else {
         return Ok(());
     };
-    let word = i64::from(program.address(limit) / 4);
-    out.statement_with("ld @[r0],r%", word, &[SECOND])?;
+    let words = (program.address(limit) / 4).cast_signed();
     out.need(Routine::Stack)?;
     // An order with signs: a large frame makes the stack pointer negative.
-    out.statement("blt r29,r%,m.stack", &[SECOND])
+    out.push_all(&[
+        Line::Plain(Plain::Load {
+            words,
+            base: 0,
+            rd: SECOND,
+        }),
+        Line::Transfer(Transfer::Branch {
+            condition: Condition::Less,
+            a: Register::STACK.0,
+            b: SECOND,
+            to: Target::Routine(Routine::Stack),
+        }),
+    ])
 }
 
 /// The stack pointer moves by a number, and its quarter with it.
@@ -268,13 +290,22 @@ fn move_stack(
     check_stack(out, program)
 }
 
+/// A quarter of the frame pointer, after what gave that.
+fn divide_frame(out: &mut Output) -> Result<(), AllocError> {
+    out.plain(Plain::Asr {
+        rs: Register::FRAME.0,
+        count: 2,
+        rd: FRAME_WORDS,
+    })
+}
+
 /// A copy to the frame pointer, and of a quarter of it.
 fn move_frame(out: &mut Output, rs: Register) -> Result<(), AllocError> {
     copy(out, rs.0, Register::FRAME.0)?;
     if rs == Register::STACK {
         return copy(out, STACK_WORDS, FRAME_WORDS);
     }
-    out.statement("asr r30,#2,r%", &[FRAME_WORDS])
+    divide_frame(out)
 }
 
 /// A copy.
@@ -298,22 +329,23 @@ fn move_statement(
 /// Calls a routine.
 fn routine(out: &mut Output, which: Routine) -> Result<(), AllocError> {
     out.need(which)?;
-    out.put("        call ")?;
-    out.put(which.name())?;
-    out.lines(",r27\n", &[])
+    out.transfer(Transfer::Call {
+        to: Target::Routine(which),
+        link: LINK_OF_ROUTINES,
+    })
 }
 
 /// A shift by a number.
 fn shift_by(out: &mut Output, op: Shift, rd: u8, rs: u8, count: u32) -> Result<(), AllocError> {
-    let bits = i64::from(count % 32);
-    if bits == 0 {
+    let count = (count % 32) as u8;
+    if count == 0 {
         return copy(out, rs, rd);
     }
     match op {
-        Shift::Left => out.statement_with("sh r0,r%,#@,r%", 32 - bits, &[rs, rd]),
-        Shift::Right => out.statement_with("sh r%,r0,#@,r%", bits, &[rs, rd]),
-        Shift::Arithmetic => out.statement_with("asr r%,#@,r%", bits, &[rs, rd]),
-        Shift::Rotate => out.statement_with("sh r%,r%,#@,r%", 32 - bits, &[rs, rs, rd]),
+        Shift::Left => out.shift(0, rs, 32 - count, rd),
+        Shift::Right => out.shift(rs, 0, count, rd),
+        Shift::Arithmetic => out.plain(Plain::Asr { rs, count, rd }),
+        Shift::Rotate => out.shift(rs, rs, 32 - count, rd),
     }
 }
 
@@ -325,27 +357,32 @@ fn shift_by_register(
     rs: u8,
     count: u8,
 ) -> Result<(), AllocError> {
-    let (which, table) = match op {
-        Shift::Left => (Routine::ShiftLeft, "ld t.sll[r26],r26"),
-        Shift::Right => (Routine::ShiftRight, "ld t.srl[r26],r26"),
-        Shift::Arithmetic => (Routine::ShiftArithmetic, "ld t.sra[r26],r26"),
-        Shift::Rotate => (Routine::RotateLeft, "ld t.rol[r26],r26"),
-    };
-    out.need(which)?;
-    out.lines(
-        "        sh r0,r%,#5,r26
-        sh r26,r0,#27,r26
-",
-        &[count],
-    )?;
-    out.statement(table, &[])?;
-    out.lines(
-        "        add r%,r0,r1
-        callr r26,r27
-        add r1,r0,r%
-",
-        &[rs, rd],
-    )
+    out.need(routine_of_shift(op))?;
+    out.push_all(&[
+        shift_line(0, count, 5, 26),
+        shift_line(26, 0, 27, 26),
+        Line::Take {
+            word: Word::Shifts(op),
+            base: 26,
+            rd: 26,
+        },
+        compute_line(Computed::Add, rs, 0, 1),
+        Line::Transfer(Transfer::CallReg {
+            rs: 26,
+            link: LINK_OF_ROUTINES,
+        }),
+        compute_line(Computed::Add, 1, 0, rd),
+    ])
+}
+
+/// The routine of a shift by a register.
+fn routine_of_shift(op: Shift) -> Routine {
+    match op {
+        Shift::Left => Routine::ShiftLeft,
+        Shift::Right => Routine::ShiftRight,
+        Shift::Arithmetic => Routine::ShiftArithmetic,
+        Shift::Rotate => Routine::RotateLeft,
+    }
 }
 
 /// The routine of a product or a quotient, behind which these registers are read.
@@ -361,12 +398,10 @@ fn routine_of(op: Long, live: u64) -> Routine {
 
 /// A product or a quotient.
 fn long(out: &mut Output, which: Routine, rs: u8, rt: u8) -> Result<(), AllocError> {
-    out.lines(
-        "        mov r%,r1
-        mov r%,r26
-",
-        &[rs, rt],
-    )?;
+    out.push_all(&[
+        Line::Plain(Plain::Move { rs, rd: 1 }),
+        Line::Plain(Plain::Move { rs: rt, rd: 26 }),
+    ])?;
     routine(out, which)
 }
 
@@ -378,11 +413,15 @@ fn end_address(
     offset: u32,
 ) -> Result<(), AllocError> {
     out.keep_end(offset)?;
-    out.statement_with("ld k.end.@[r0],r%", i64::from(offset), &[rd.0])?;
+    out.push(Line::Take {
+        word: Word::End(offset),
+        base: 0,
+        rd: rd.0,
+    })?;
     if base == Register::ZERO {
         return Ok(());
     }
-    out.statement("add r%,r%,r%", &[base.0, rd.0, rd.0])
+    out.compute(Computed::Add, base.0, rd.0, rd.0)
 }
 
 /// The address of a symbol, or a sum.
@@ -419,7 +458,10 @@ fn call_statement(
 ) -> Result<(), AllocError> {
     match (planned.symbol, planned.plan.place) {
         (Some(symbol), _) if is_nowhere(program, symbol) => routine(out, Routine::Null),
-        (Some(symbol), _) => out.statement_to("call ", &[], &program.symbols, symbol, ",r31\n"),
+        (Some(symbol), _) => out.transfer(Transfer::Call {
+            to: Target::Symbol(symbol),
+            link: Register::LINK.0,
+        }),
         (None, Some(place)) if is_null(place) => routine(out, Routine::Null),
         (None, Some(place)) => call_at(out, place),
         (None, None) => Ok(()),
@@ -435,7 +477,7 @@ fn call(
 ) -> Result<(), AllocError> {
     call_statement(out, program, planned)?;
     if function.points {
-        return out.statement("asr r30,#2,r%", &[FRAME_WORDS]);
+        return divide_frame(out);
     }
     Ok(())
 }
@@ -443,11 +485,11 @@ fn call(
 /// A jump by a register. One that holds the code address of a jump table's label is cleared, as only a jump may read that.
 fn jump_by(out: &mut Output, register: u8) -> Result<(), AllocError> {
     if register == Register::LINK.0 || register == SECOND {
-        return out.statement("jr r%", &[register]);
+        return out.transfer(Transfer::JumpReg(register));
     }
     copy(out, register, SECOND)?;
     copy(out, Register::ZERO.0, register)?;
-    out.statement("jr r%", &[SECOND])
+    out.transfer(Transfer::JumpReg(SECOND))
 }
 
 /// A jump.
@@ -466,9 +508,7 @@ fn jump(
         (LinkFrom::Symbol, Some(symbol)) if is_nowhere(program, symbol) => {
             routine(out, Routine::Null)
         }
-        (LinkFrom::Symbol, Some(symbol)) => {
-            out.statement_to("b ", &[], &program.symbols, symbol, "\n")
-        }
+        (LinkFrom::Symbol, Some(symbol)) => { out.transfer(Transfer::Jump(Target::Symbol(symbol))) }
         (LinkFrom::Symbol, None) => Ok(()),
     }
 }
@@ -500,7 +540,7 @@ fn operation(
 fn divide_written(out: &mut Output, function: &Function, rd: Register) -> Result<(), AllocError> {
     match rd {
         Register::STACK => divide_stack(out),
-        Register::FRAME if function.points => out.statement("asr r30,#2,r%", &[FRAME_WORDS]),
+        Register::FRAME if function.points => divide_frame(out),
         _ => Ok(()),
     }
 }
@@ -533,7 +573,7 @@ fn trap(out: &mut Output, code: u32) -> Result<(), AllocError> {
     match code {
         END => {
             copy(out, Register::ZERO.0, LINK_OF_ROUTINES)?;
-            out.statement("halt", &[])
+            out.transfer(Transfer::Halt)
         }
         OVERFLOW | ZERO => routine(out, Routine::Zero),
         _ => routine(out, Routine::Trap),
@@ -619,12 +659,11 @@ fn divide_loaded(
 /// Translates a branch to the label that it names.
 fn branch_if_named(
     out: &mut Output,
-    program: &Program,
     found: Comparison,
     symbol: Option<u32>,
 ) -> Result<(), AllocError> {
     match symbol {
-        Some(symbol) => branch(out, program, found, symbol),
+        Some(symbol) => branch(out, found, symbol),
         None => Ok(()),
     }
 }
@@ -658,7 +697,7 @@ fn kept(
                 rs,
                 second,
             };
-            branch_if_named(out, program, found, planned.symbol)
+            branch_if_named(out, found, planned.symbol)
         }
         Instruction::Jump(to) => jump(out, program, to, planned.symbol, planned.plan.place),
         Instruction::Call(_) => call(out, program, function, planned),
@@ -724,7 +763,7 @@ fn put_step(
 ) -> Result<(), AllocError> {
     match (planned.plan.step, planned.symbol) {
         (Step::Gone, _) => Ok(()),
-        (Step::Fused(found), Some(symbol)) => branch(out, program, found, symbol),
+        (Step::Fused(found), Some(symbol)) => branch(out, found, symbol),
         _ => kept(out, program, function, planned),
     }
 }
@@ -737,7 +776,11 @@ pub(crate) fn translate_statement(
     planned: &Planned,
 ) -> Result<(), AllocError> {
     if let Some((from, into)) = planned.plan.divided {
-        out.statement("asr r%,#2,r%", &[from, into])?;
+        out.plain(Plain::Asr {
+            rs: from,
+            count: 2,
+            rd: into,
+        })?;
     }
     forget_first(out, planned);
     put_step(out, program, function, planned)?;

@@ -1,10 +1,14 @@
 //! The translation of texts.
-ghost use Rattle.std.specs.Prelude.{IfErr};
+ghost use Rattle.std.specs.Prelude.{◌≡◌, ◌≤◌, ◌++◌, List, ℕ, IfErr, IfOk, OnOk};
+ghost use Rattle.cc_translate.specs.declared.translating.TheConstants.{MOST_STATEMENTS};
+ghost use Rattle.cc_emit.specs.Sources.{code_text};
 ghost use Rattle.cc_translate.specs.Errors.{IsTooMany};
 
 use crate::error::TranslateError;
 use crate::functions::translate_function;
-use cc_emit::{Output, end_of, put_data, put_routines};
+use cc_emit::{Line, Output, Plain, Target, Transfer, Word, end_of, put_routines, source_text};
+use cc_lines::Register;
+use cc_plan::STACK_WORDS;
 use cc_program::{Fault, Program, Reader};
 use cc_rules::FIRST_BYTE;
 use std::alloc::{AllocError, Global};
@@ -16,15 +20,24 @@ const MOST_STATEMENTS: u32 = 20_000;
 const MOST_WORDS: u64 = 63_232;
 
 /// Adds the beginning, which calls `main` with a stack.
-fn put_start(out: &mut Output, program: &Program, main: u32) -> Result<(), AllocError> {
-    out.put("; translated from assembly for MIPS-I\n")?;
-    out.lines(
-        "        ld k.stack[r0],r29
-        asr r29,#2,r28
-",
-        &[],
-    )?;
-    out.statement_to("call ", &[], &program.symbols, main, ",r31\n        halt\n")
+fn put_start(out: &mut Output, main: u32) -> Result<(), AllocError> {
+    out.push_all(&[
+        Line::Take {
+            word: Word::Stack,
+            base: 0,
+            rd: Register::STACK.0,
+        },
+        Line::Plain(Plain::Asr {
+            rs: Register::STACK.0,
+            count: 2,
+            rd: STACK_WORDS,
+        }),
+        Line::Transfer(Transfer::Call {
+            to: Target::Symbol(main),
+            link: Register::LINK.0,
+        }),
+        Line::Transfer(Transfer::Halt),
+    ])
 }
 
 /// Adds the functions that are kept, and the routines that they call.
@@ -34,7 +47,7 @@ fn put_code(
     program: &Program,
     main: u32,
 ) -> Result<(), AllocError> {
-    put_start(out, program, main)?;
+    put_start(out, main)?;
     for function in &program.functions {
         if function.kept {
             translate_function(alloc, out, program, function)?;
@@ -46,23 +59,23 @@ fn put_code(
     put_routines(out)
 }
 
-/// Adds the data, unless there are more than the memory has room for.
-fn put_rest<'a>(
+/// The text of the source, unless there are more data than the memory has room for.
+fn text_of<'a>(
     alloc: Global,
-    out: &mut Output,
+    out: &Output,
     program: &Program<'a>,
     behind: u64,
-) -> Result<(), TranslateError<'a>>
-    ensures { IfErr result (λ e. IsTooMany e) }
+) -> Result<Vec<u8>, TranslateError<'a>>
+    ensures refused { IfErr result (λ e. IsTooMany e) }
+    ensures code { IfOk result (λ text. (rest : List ℕ) × (text.items ≡ code_text program.now out.now.lines.items ++ rest)) }
 {
     let end = end_of(out, behind);
     let words = end.saturating_sub(FIRST_BYTE) / 4;
     if words > MOST_WORDS {
         return Err(TranslateError::Words(words));
     }
-    put_data(alloc, out, program, behind as u32, end as u32)?;
-    put_size(out, words)?;
-    Ok(())
+    let text = source_text(alloc, program, out, behind as u32, end as u32)?;
+    Ok(text)
 }
 
 /// The name of the function with which there were too many statements.
@@ -70,36 +83,15 @@ fn crossing_name<'a>(out: &Output, program: &Program<'a>) -> Option<&'a [u8]> {
     Some(program.symbols.at(out.crossing?)?.name)
 }
 
-/// Adds a number and what it counts, as `1 statement` or `2 statements`.
-fn put_count(out: &mut Output, count: i64, what: &str) -> Result<(), AllocError> {
-    out.number(count)?;
-    out.put(what)?;
-    if count != 1 {
-        out.put("s")?;
-    }
-    Ok(())
-}
-
-/// Adds a comment with the size of the source.
-fn put_size(out: &mut Output, words: u64) -> Result<(), AllocError> {
-    out.put("; ")?;
-    put_count(out, i64::from(out.statements), " statement")?;
-    out.put(", ")?;
-    put_count(out, i64::from(out.instructions), " instruction")?;
-    out.put(", ")?;
-    put_count(out, words.cast_signed(), " data word")?;
-    out.put("\n")
-}
-
-/// Adds code and data.
+/// Adds code, unless a statement is not translated or there are too many.
 fn put_all<'a>(
     alloc: Global,
     out: &mut Output,
     program: &Program<'a>,
     main: u32,
-    behind: u64,
 ) -> Result<(), TranslateError<'a>>
-    ensures { IfErr result (λ e. IsTooMany e) }
+    ensures refused { IfErr result (λ e. IsTooMany e) }
+    ensures few { OnOk result (out.new.statements ≤ MOST_STATEMENTS) }
 {
     put_code(alloc, out, program, main)?;
     if let Some((unit, line, refusal)) = out.fault {
@@ -115,7 +107,21 @@ fn put_all<'a>(
         let crossing = crossing_name(out, program);
         return Err(TranslateError::Statements(out.statements, crossing));
     }
-    put_rest(alloc, out, program, behind)
+    Ok(())
+}
+
+/// What a program becomes.
+pub fn lines_of<'a>(
+    alloc: Global,
+    program: &Program<'a>,
+    main: u32,
+) -> Result<Output, TranslateError<'a>>
+    ensures refused { IfErr result (λ e. IsTooMany e) }
+    ensures few { IfOk result (λ out. out.statements ≤ MOST_STATEMENTS) }
+{
+    let mut out = Output::new(alloc);
+    put_all(alloc, &mut out, program, main)?;
+    Ok(out)
 }
 
 /// The source of a program.
@@ -127,10 +133,8 @@ fn source_of<'a>(
 ) -> Result<Vec<u8>, TranslateError<'a>>
     ensures { IfErr result (λ e. IsTooMany e) }
 {
-    let mut out = Output::new(alloc);
-    put_all(alloc, &mut out, program, main, behind)?;
-    let Output { text, .. } = out;
-    Ok(text)
+    let out = lines_of(alloc, program, main)?;
+    text_of(alloc, &out, program, behind)
 }
 
 /// The source that texts become together, which are read into an empty program.

@@ -1,0 +1,36 @@
+-- The text of a source.
+use Rattle.std.specs.Prelude.{ℕ, ◌≡◌, cond, ◌==◌, List, [], ◌++◌, codes, decimal}
+use Rattle.cc_program.specs.declared.program.Program.{Program}
+use Rattle.cc_emit.specs.declared.line.Line.{Line}
+use Rattle.cc_emit.specs.declared.output.Output.{Output}
+use Rattle.cc_emit.specs.declared.words.Said.{Said}
+use Rattle.cc_emit.specs.declared.words.Writing.TheVariants.{Nothing}
+use Rattle.cc_emit.specs.Lines.{lines_text}
+use Rattle.cc_emit.specs.Data.{front_text, added_text}
+use Rattle.cc_emit.specs.Images.{image_text}
+
+-- the comment that a source begins with
+abbrev pub title : List ℕ
+title = codes "; translated from assembly for MIPS-I\n"
+
+-- the comment, and the code
+abbrev pub code_text : Program → List Line → List ℕ
+code_text p lines = title ++ lines_text p lines
+
+-- a number and what it counts, after a text
+abbrev pub plural : ℕ → List ℕ
+plural count = cond (count == 1) [] (codes "s")
+
+abbrev pub count_text : List ℕ → ℕ → List ℕ → List ℕ
+count_text before count what = before ++ decimal count ++ what ++ plural count
+
+-- a comment with the size of the source
+abbrev pub size_text : ℕ → ℕ → ℕ → List ℕ
+size_text statements instructions words =
+    count_text (codes "; ") statements (codes " statement") ++ count_text (codes ", ") instructions (codes " instruction")
+    ++ count_text (codes ", ") words (codes " data word") ++ codes "\n"
+
+-- a text goes on with the data: words with their labels, and those that the translation adds
+abbrev pub IsData : Program → Output → ℕ → List ℕ → List ℕ → Type 0
+IsData p out end before after = (bytes : List ℕ) × (said : List Said)
+    × (after ≡ before ++ (front_text out.input ++ image_text p bytes Nothing said ++ added_text out end))
