@@ -18,8 +18,8 @@ from chromium import Page, need_chromium
 from common import program
 from serve import put, serving, settled
 
-WIDTH, HEIGHT = 1500, 900
-CYCLE = 250
+WIDTH, HEIGHT = 1500, 1000
+CYCLE = 253
 DRAWINGS = {
     "countdown.svg": ("examples/countdown.s",),
     "sort.svg": ("examples/sort.s", "--from", "40", "--cycles", "40"),
