@@ -300,7 +300,7 @@ def try_exercises(folder):
             said, holds = (type(error).__name__, str(error)[:200]), False
         if not holds:
             wrong.append((name, text[:600], said))
-    tell(f"{EXERCISES:,} mutated exercises are graded, or refused in one line ({refused:,})", not wrong, f"{len(wrong)} {wrong[:3]}"[:3000], EXERCISES)
+    tell(f"{EXERCISES:,} mutated exercises are graded, or refused in one line ({refused:,})", not wrong, f"{len(wrong)}: {sorted({str(it[2])[:150] for it in wrong})[:8]} {wrong[:1]}"[:3000], EXERCISES)
     tell("many of them are refused", refused > EXERCISES / 10, str(refused))
 
 

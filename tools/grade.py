@@ -53,6 +53,8 @@ def read_bytes(path: str) -> bytes:
             content = file.read(MOST_SUBMISSION + 1)
     except OSError as error:
         raise Fault(f"cannot read '{path}': {(error.strerror or 'it failed').lower()}") from None
+    except ValueError:
+        raise Fault(f"cannot read {shown(path.encode(errors='replace'))}: it is no name of a file") from None
     if len(content) > MOST_SUBMISSION:
         raise Fault(f"'{path}' has more than {MOST_SUBMISSION:,} bytes")
     return content
@@ -67,6 +69,8 @@ class Exercise:
             self.said = json.loads(read_bytes(path))
         except ValueError as error:
             raise Fault(f"{path}: invalid JSON: {error}") from None
+        except RecursionError:
+            raise Fault(f"{path}: invalid JSON: too many levels") from None
         if not isinstance(self.said, dict) or self.said.get("kind") not in KINDS:
             raise Fault(f"{path}: expected an object whose kind is {', '.join(KINDS[:-1])} or {KINDS[-1]}")
         self.kind, self.path = self.said["kind"], path
