@@ -54,7 +54,7 @@ def read_bytes(path: str) -> bytes:
     except OSError as error:
         raise Fault(f"cannot read '{path}': {(error.strerror or 'it failed').lower()}") from None
     except ValueError:
-        raise Fault(f"cannot read {shown(path.encode(errors='replace'))}: it is no name of a file") from None
+        raise Fault(f"cannot read {shown(path.encode(errors='replace'))}: the name of a file has no byte 0") from None
     if len(content) > MOST_SUBMISSION:
         raise Fault(f"'{path}' has more than {MOST_SUBMISSION:,} bytes")
     return content
