@@ -159,8 +159,8 @@ CASES = (
     Case("blocks", "blocks.py", "a program that prints nothing", "MX_LAB=/bin/true checks/blocks.py", ("FAILED: source 1",)),
     Case("blocks", "blocks.py", "a lower bound that is one more", """
         fake "$MX_LAB" 's/"bound": 7,/"bound": 8,/'; MX_SAMPLE=1 MX_LAB=$fake checks/blocks.py""", ("FAILED: source",)),
-    Case("mutated files", "mutated.py", "an exercise with a budget below 0", """
-        plant tools/grade.py 's/if not 0 <= found <= most/if False/'; checks/mutated.py""", ("FAILED: 600 mutated exercises",)),
+    Case("mutated files", "mutated.py", "an exercise with a member of another kind", """
+        plant tools/grade.py 's/if not isinstance(found, kind) or isinstance(found, bool):/if False:/'; checks/mutated.py""", ("FAILED: 600 mutated exercises",)),
     Case("mutated files", "mutated.py", "a second reading without the rule LastLoad", """
         plant examples/check_certificate.py 's/lambda: items\\[-1\\] is None.*/lambda: True),/'; checks/mutated.py""", ("FAILED: 500 mutated plan files",)),
     Case("blocks", "blocks.py", "a block that ran twice in place of once", """
