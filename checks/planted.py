@@ -189,6 +189,8 @@ CASES = (
     Case("JSON", "replay.py", "an empty trace", "checks/replay.py /dev/null", ("the trace is empty",)),
     Case("soak", "soak.py", "false cycles", """fake "$MX_RUN" 's/^cycles /cycles 1/'; MX_RUN=$fake checks/soak.py 7 40""", ("FAILED: soak 7 40",)),
     Case("soak", "soak.py", "a program that fails", "MX_RUN=/bin/false checks/soak.py", ("runs differ",)),
+    Case("latches", "latches.py", "a program that prints nothing", "MX_PIPE_CASES=/bin/true checks/latches.py 2000", ("2000 of 2000 runs differ",)),
+    Case("latches", "latches.py", "no runs", "checks/latches.py 0", ("expected a number of runs",)),
     Case("memory", "memory.sh", "a command that is none", "checks/memory.sh typo", ("typo",)),
     Case("memory", "memory.sh", "a program that never asks for memory", "MX_RUN=/bin/true checks/memory.sh", ("FAILED: run hello.s: no request was refused",)),
     Case("memory", "memory.sh", "a program that has printed something once memory runs out", """
