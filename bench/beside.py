@@ -15,17 +15,18 @@ import growth
 
 CYCLES, MOST, CYCLES_OF_A_TURN = 16_000_000, 90_000_000, 5.5
 EVERY_64 = "".join(f"{64 * at}\n" for at in range(65_536))
+# The loop's blocks in source order, with no-ops in the slots.
+PLANS = "0 1 2 3\n/ - -\n/ - -\n0 1\n0 1 / - -\n/\n"
 COMMANDS = (
     ("run with an interrupt every 64 cycles", ("run", "a.s", "--interrupts", "i")),
     ("run --trace 100", ("run", "a.s", "--trace", "100")),
     ("explain", ("explain", "a.s")),
     ("profile", ("profile", "a.s")),
     ("compare, two runs", ("compare", "a.s")),
-    ("plans, two runs", ("plans", "a.s", "p")),
+    ("plans, source order", ("plans", "a.s", "p")),
     ("caches, 20 caches", ("caches", "a.s")),
-    ("trace, the last 100 cycles", ("trace", "a.s", "--from", "LAST", "--cycles", "100")),
     ("draw, the last 100 cycles", ("draw", "a.s", "--from", "LAST", "--cycles", "100")),
-    ("debug, to a watched word", ("debug", "a.s", "next", "--stops", "1", "--watch", "60000")),
+    ("debug, a label at the end", ("debug", "a.s", "done", "--stops", "1")),
     ("interrupts, one row", ("interrupts", "a.s", "--from", "100", "--to", "100")),
     ("meaning", ("meaning", "a.s", "--steps", "100000000")),
 )
@@ -36,7 +37,7 @@ def seconds(words, cycles, folder):
     turns = int(cycles / CYCLES_OF_A_TURN)
     given = tuple(str(int(cycles * 0.9)) if it == "LAST" else it for it in words)
     more = () if words[0] == "meaning" else growth.BIG
-    row = growth.Row(words[0], "cycles", (*given, *more), turns, lambda n: {"a.s": growth.loop(n), "i": EVERY_64, "p": ""})
+    row = growth.Row(words[0], "cycles", (*given, *more), turns, lambda n: {"a.s": growth.loop(n), "i": EVERY_64, "p": PLANS})
     return growth.measure(row, growth.program_of(row), turns, folder)[0]
 
 
