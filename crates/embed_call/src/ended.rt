@@ -17,7 +17,7 @@ use thiserror::Error;
 
 /// How a command ended, all that it put out, and the bytes of the file that it wrote, if it wrote one.
 #[derive(Debug, Drop)]
-pub struct Ended {
+pub struct CallEnd {
     pub status: Status,
     pub output: Vec<u8>,
     pub file: Vec<u8>,
@@ -43,7 +43,11 @@ fn is_memory(status: Status) -> bool
 }
 
 /// How the command that words ask for ends over the files of a shelf.
-pub fn ended_on(alloc: Global, words: &[String], mut shelf: QuietShelf) -> Result<Ended, Memory>
+pub fn run_on_shelf(
+    alloc: Global,
+    words: &[String],
+    mut shelf: QuietShelf,
+) -> Result<CallEnd, Memory>
     ensures { IfOk result (λ e. Answered (command_of (map string_bytes words.now)) (held_in shelf) e.status e.output.items e.file.items) }
 {
     let target = target_of(alloc, words)?;
@@ -56,7 +60,7 @@ pub fn ended_on(alloc: Global, words: &[String], mut shelf: QuietShelf) -> Resul
         return Err(Memory);
     };
     let file = read_target(alloc, &mut shelf, status, target)?;
-    Ok(Ended {
+    Ok(CallEnd {
         status,
         output,
         file,
@@ -64,16 +68,16 @@ pub fn ended_on(alloc: Global, words: &[String], mut shelf: QuietShelf) -> Resul
 }
 
 // How the command of a call's words ends over its files.
-fn run_words(alloc: Global, words: &[String], call: &Call) -> Result<Ended, Memory>
+fn run_words(alloc: Global, words: &[String], call: &Call) -> Result<CallEnd, Memory>
     requires { map string_bytes words.now ≡ lines call.now.words.now }
     ensures { IfOk result (λ e. Answered (asked_by call.now) (held_by call.now) e.status e.output.items e.file.items) }
 {
     let shelf = QuietShelf::new(alloc, call)?;
-    ended_on(alloc, words, shelf)
+    run_on_shelf(alloc, words, shelf)
 }
 
 /// How a call ends: as `command` does on a shelf that holds just the files of the call.
-pub fn end_of(alloc: Global, call: &Call) -> Result<Ended, CallFault>
+pub fn end_of(alloc: Global, call: &Call) -> Result<CallEnd, CallFault>
     ensures answered { IfOk result (λ e. Answered (asked_by call.now) (held_by call.now) e.status e.output.items e.file.items) }
     ensures not_text { ¬ IsUtf8 call.now.words.now → result ≡ Err CallFault.NotText }
     ensures text { IsUtf8 call.now.words.now → result ≢ Err CallFault.NotText }

@@ -10,7 +10,7 @@ mod text_sink;
 mod words;
 
 pub use call::Call;
-pub use ended::{CallFault, Ended, end_of, ended_on};
+pub use ended::{CallEnd, CallFault, end_of, run_on_shelf};
 pub use outcome::{MEMORY, NOT_TEXT, Outcome, TOO_SHORT, answer_call};
 pub use quiet_shelf::QuietShelf;
 pub use text_sink::TextSink;

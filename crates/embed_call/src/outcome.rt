@@ -6,7 +6,7 @@ ghost use Rattle.embed_call.specs.Answered.{Answered, asked_by};
 ghost use Rattle.embed_call.specs.Buffers.{filled};
 ghost use Rattle.embed_call.specs.Outcomes.{Returns, number_in, IsOutcome, memory_number, no_text_number};
 
-use crate::{Call, CallFault, Ended, end_of};
+use crate::{Call, CallEnd, CallFault, end_of};
 use std::alloc::Global;
 
 /// The number of a call for which memory ran out.
@@ -58,7 +58,7 @@ fn give(status: u32, text: &[u8], written: &[u8], output: &mut [u8], file: &mut 
 }
 
 // The number of a call that ended so, into buffers of these lengths.
-fn number_of(ended: &Ended, room: usize, file_room: usize) -> u32
+fn number_of(ended: &CallEnd, room: usize, file_room: usize) -> u32
     ensures { result ≡ number_in ended.now.status (length ended.now.output.items) room (length ended.now.file.items) file_room }
 {
     if ended.output.len() <= room && ended.file.len() <= file_room {

@@ -12,5 +12,4 @@ pub use cell::Cell;
 pub use drawing::{Drawing, draw};
 pub use frame::Frame;
 pub use rows::{Row, SPAN, rows_of};
-pub use stage::{cell_in, stage_in};
 pub use ways::{Way, way_of};

@@ -7,7 +7,8 @@ ghost use Rattle.lab_draw.specs.Frames.{AreFrames};
 ghost use Rattle.lab_draw.specs.Stages.{cell_in as frame_cell};
 ghost use Rattle.lab_draw.specs.Rows.{address_of, earlier, first_address, first_come, first_fetch, IsRow, AreRows};
 
-use crate::{Cell, Frame, cell_in, stage_in};
+use crate::stage::{cell_in, stage_in};
+use crate::{Cell, Frame};
 use mx_io::Memory;
 use mx_turn::Stage;
 use std::alloc::{AllocError, Global};

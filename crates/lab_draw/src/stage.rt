@@ -35,7 +35,7 @@ fn shown_stage(frame: &Frame, fetch: u64) -> Stage
 
 /// The stage that holds a fetch in a frame, with its marks as the turn began; empty where none does. Fetches are
 /// numbered from 0.
-pub fn stage_in(frame: &Frame, fetch: u64) -> Stage
+pub(crate) fn stage_in(frame: &Frame, fetch: u64) -> Stage
     ensures shown { result ≡ stage_in frame.now fetch }
     ensures defined { (p : Program) (requests : List ℕ) (n : ℕ) → IsFrame p requests n frame.now → result ≡ stage_at p requests fetch n }
 {
@@ -101,7 +101,7 @@ fn shown_cell(frame: &Frame, fetch: u64) -> Cell
 }
 
 /// What a frame shows of a fetch. Fetches are numbered from 0.
-pub fn cell_in(frame: &Frame, fetch: u64) -> Cell
+pub(crate) fn cell_in(frame: &Frame, fetch: u64) -> Cell
     ensures shown { result ≡ cell_in frame.now fetch }
     ensures defined { (p : Program) (requests : List ℕ) (n : ℕ) → IsFrame p requests n frame.now → result ≡ cell_at p requests fetch n }
 {

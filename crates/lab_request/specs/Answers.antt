@@ -5,11 +5,11 @@ use Rattle.std.specs.Str.{IsUtf8}
 use Rattle.serde_json.specs.Data.{Data, Members}
 use Rattle.serde_json.specs.Read.{read}
 use Rattle.serde_json.specs.Find.{as_object}
-use Rattle.lab_request.specs.declared.command.Command.{Command}
+use Rattle.lab_request.specs.declared.command.WorkbenchCommand.{WorkbenchCommand}
 use Rattle.lab_request.specs.declared.fault.Fault.{Fault}
 use Rattle.lab_request.specs.declared.fault.Fault.TheVariants.{LeftOut, NoString, NoName, NoCycles, NoBytes, TooLong, NoForm, NoScheduler, NoNumber}
 use Rattle.lab_request.specs.declared.fault.Wrong.{Wrong}
-use Rattle.lab_request.specs.declared.answer.Answer.{Answer}
+use Rattle.lab_request.specs.declared.answer.Response.{Response}
 use Rattle.lab_request.specs.Fields.{command_name, field_name, fields_of, keys_of, first_unknown, first_wrong}
 use Rattle.lab_request.specs.Requests.{Held, words_of, held_of}
 use Rattle.lab_request.specs.Documents.{document, refusal_document}
@@ -46,17 +46,17 @@ abbrev pub wrong_refusal : Wrong → Refusal
 wrong_refusal wrong = of_field (field_name wrong.field) (plain_words wrong.fault ++ range_words wrong.fault)
 
 -- a key that is none of the command's fields, of which at most 80 bytes are told
-abbrev pub unknown_refusal : Command → List ℕ → Refusal
+abbrev pub unknown_refusal : WorkbenchCommand → List ℕ → Refusal
 unknown_refusal command key = of_field (take 80 key) (codes "no field of " ++ command_name command)
 
-abbrev pub members_refusal : Command → Data → Option Members → Option Refusal
+abbrev pub members_refusal : WorkbenchCommand → Data → Option Members → Option Refusal
 members_refusal command d None = Some (of_body (codes "no JSON object"))
 members_refusal command d (Some ms) =
     option_or (option_map (unknown_refusal command) (first_unknown (fields_of command) (keys_of ms)))
     (option_map wrong_refusal (first_wrong (fields_of command) d))
 
 -- why a value is refused, if it is: it is no object, a key of it is no field, or the first field that is wrong
-abbrev pub refusal_of : Command → Data → Option Refusal
+abbrev pub refusal_of : WorkbenchCommand → Data → Option Refusal
 refusal_of command d = members_refusal command d (as_object d)
 
 -- of bytes that are no text of JSON
@@ -69,12 +69,12 @@ not_json = of_body (codes "no JSON")
 abbrev pub Reads : List ℕ → Data → Type 0
 Reads body d = IsUtf8 body × (read body ≡ Some d)
 
-abbrev pub Refuses : Refusal → Answer → Type 0
+abbrev pub Refuses : Refusal → Response → Type 0
 Refuses refusal answer = (answer.is_refused ≡ true) × (answer.document.items ≡ refusal_document refusal.error refusal.field)
 
 -- how a command ended whose words and files are those of the request, as its document
-pub record Ran (ends : Command → List (List ℕ) → Held → ℕ → List ℕ → List ℕ → Type 0)
-    (command : Command) (d : Data) (answer : Answer) : Type 0 where
+pub record Ran (ends : WorkbenchCommand → List (List ℕ) → Held → ℕ → List ℕ → List ℕ → Type 0)
+    (command : WorkbenchCommand) (d : Data) (answer : Response) : Type 0 where
   pub answered : answer.is_refused ≡ false
   pub status : ℕ
   pub output : List ℕ
@@ -83,7 +83,7 @@ pub record Ran (ends : Command → List (List ℕ) → Held → ℕ → List ℕ
   pub printed : answer.document.items ≡ document command status output errors
 
 -- it is refused, if there is a refusal, and else the command ran
-abbrev pub Comes : (Command → List (List ℕ) → Held → ℕ → List ℕ → List ℕ → Type 0)
-    → Command → Data → Option Refusal → Answer → Type 0
+abbrev pub Comes : (WorkbenchCommand → List (List ℕ) → Held → ℕ → List ℕ → List ℕ → Type 0)
+    → WorkbenchCommand → Data → Option Refusal → Response → Type 0
 Comes ends command d (Some refusal) answer = Refuses refusal answer
 Comes ends command d None answer = Ran ends command d answer

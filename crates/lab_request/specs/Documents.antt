@@ -2,8 +2,8 @@
 use Rattle.std.specs.Prelude.{ℕ, ◌-◌, ◌/◌, ◌%◌, ◌==◌, ◌&&◌, ◌||◌, List, [], ◌∷◌, ◌++◌, length, take, map, slice_index, codes, decimal, Bool, true, false, if◌then◌else◌, nat_lt, Option, Some, None}
 use Rattle.std.specs.List.{flat_map}
 use Rattle.mx_text.specs.Text.{hex_digit}
-use Rattle.lab_request.specs.declared.command.Command.{Command}
-use Rattle.lab_request.specs.declared.command.Command.TheVariants.{Check}
+use Rattle.lab_request.specs.declared.command.WorkbenchCommand.{WorkbenchCommand}
+use Rattle.lab_request.specs.declared.command.WorkbenchCommand.TheVariants.{Check}
 use Rattle.lab_request.specs.Fields.{command_name, is_from}
 
 -- ---- strings of JSON: a sign stands for a byte
@@ -34,7 +34,7 @@ comma_for_feed b = if b == 10 then 44 else b
 abbrev pub as_list : List ℕ → List ℕ
 as_list bytes = (91 ∷ map comma_for_feed (without_feed bytes)) ++ 93 ∷ []
 
-abbrev pub is_check : Command → Bool
+abbrev pub is_check : WorkbenchCommand → Bool
 is_check Check = true
 is_check _ = false
 
@@ -43,20 +43,20 @@ abbrev pub front : List ℕ → ℕ
 front bytes = slice_index bytes 0
 
 -- of `check`, where it told what it found, a JSON text a line, if any
-abbrev pub are_lines : Command → ℕ → List ℕ → Bool
+abbrev pub are_lines : WorkbenchCommand → ℕ → List ℕ → Bool
 are_lines command status output = is_check command && nat_lt status 2 && (length output == 0 || front output == 123)
 
 -- JSON as it stands
 abbrev pub is_json : List ℕ → Bool
 is_json output = front output == 123 || front output == 91
 
-abbrev pub output_part : Command → ℕ → List ℕ → List ℕ
+abbrev pub output_part : WorkbenchCommand → ℕ → List ℕ → List ℕ
 output_part command status output =
     if are_lines command status output then codes "\"output\":" ++ as_list output
     else if is_json output then codes "\"output\":" ++ output
     else codes "\"text\":" ++ json_string output
 
-abbrev pub document : Command → ℕ → List ℕ → List ℕ → List ℕ
+abbrev pub document : WorkbenchCommand → ℕ → List ℕ → List ℕ → List ℕ
 document command status output errors =
     codes "{\"command\":\"" ++ command_name command ++ codes "\",\"status\":" ++ decimal status ++ codes ","
     ++ errors_part errors ++ output_part command status output ++ codes "}\n"

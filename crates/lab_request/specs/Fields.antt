@@ -6,8 +6,8 @@ use Rattle.std.specs.List.{list_all, list_any}
 use Rattle.std.specs.Str.{bytes_eq}
 use Rattle.serde_json.specs.Data.{Data, string, array, Items, no_items, item, Members, no_members, member}
 use Rattle.serde_json.specs.Find.{get, as_number, as_str, as_array, as_u64}
-use Rattle.lab_request.specs.declared.command.Command.{Command}
-use Rattle.lab_request.specs.declared.command.Command.TheVariants.{Check, Run, Explain, Draw, Profile, Compare, Disassemble, Blocks, Planned, Caches, Sweep}
+use Rattle.lab_request.specs.declared.command.WorkbenchCommand.{WorkbenchCommand}
+use Rattle.lab_request.specs.declared.command.WorkbenchCommand.TheVariants.{Check, Run, Explain, Draw, Profile, Compare, Disassemble, Blocks, Planned, Caches, Sweep}
 use Rattle.lab_request.specs.declared.field.Field.{Field}
 use Rattle.lab_request.specs.declared.field.Field.TheVariants.{Source, Name, Interrupts, Input, Budget, From, Cycles, Trace, Dump, Count, Form, Scheduler, Plans, PlanFile, To, Step, Line, Brings, Penalty}
 use Rattle.lab_request.specs.declared.fault.Fault.{Fault}
@@ -15,7 +15,7 @@ use Rattle.lab_request.specs.declared.fault.Fault.TheVariants.{LeftOut, NoString
 use Rattle.lab_request.specs.declared.fault.Wrong.{Wrong}
 
 -- the name of a command
-abbrev pub command_name : Command → List ℕ
+abbrev pub command_name : WorkbenchCommand → List ℕ
 command_name Check = codes "check"
 command_name Run = codes "run"
 command_name Explain = codes "explain"
@@ -28,11 +28,11 @@ command_name Planned = codes "plans"
 command_name Caches = codes "caches"
 command_name Sweep = codes "interrupts"
 
-abbrev pub commands : List Command
+abbrev pub commands : List WorkbenchCommand
 commands = Check ∷ Run ∷ Explain ∷ Draw ∷ Profile ∷ Compare ∷ Disassemble ∷ Blocks ∷ Planned ∷ Caches ∷ Sweep ∷ []
 
 -- the command of a name
-abbrev pub command_named : List ℕ → Option Command
+abbrev pub command_named : List ℕ → Option WorkbenchCommand
 command_named word = find (λ c. bytes_eq (command_name c) word) commands
 
 -- the name of a field in a body: a plan file has the same one where it is an option and where it is an argument by itself
@@ -58,7 +58,7 @@ field_name Brings = codes "brings"
 field_name Penalty = codes "penalty"
 
 -- the fields that a command's body may have, in their order
-abbrev pub fields_of : Command → List Field
+abbrev pub fields_of : WorkbenchCommand → List Field
 fields_of Check = Source ∷ Name ∷ []
 fields_of Run = Source ∷ Name ∷ Interrupts ∷ Input ∷ Budget ∷ Trace ∷ Dump ∷ Count ∷ []
 fields_of Explain = Source ∷ Name ∷ Interrupts ∷ Input ∷ Budget ∷ []

@@ -4,8 +4,8 @@ use Rattle.std.specs.List.{flat_map}
 use Rattle.std.specs.Str.{bytes_eq}
 use Rattle.serde_json.specs.Data.{Data, string, array}
 use Rattle.serde_json.specs.Find.{get, as_str, as_array}
-use Rattle.lab_request.specs.declared.command.Command.{Command}
-use Rattle.lab_request.specs.declared.command.Command.TheVariants.{Check, Run, Explain, Draw, Profile, Compare, Disassemble, Blocks, Planned, Caches, Sweep}
+use Rattle.lab_request.specs.declared.command.WorkbenchCommand.{WorkbenchCommand}
+use Rattle.lab_request.specs.declared.command.WorkbenchCommand.TheVariants.{Check, Run, Explain, Draw, Profile, Compare, Disassemble, Blocks, Planned, Caches, Sweep}
 use Rattle.lab_request.specs.declared.field.Field.{Field}
 use Rattle.lab_request.specs.declared.field.Field.TheVariants.{Source, Name, Interrupts, Input, Budget, From, Cycles, Trace, Dump, Count, Form, Scheduler, Plans, PlanFile, To, Step, Line, Brings, Penalty}
 use Rattle.lab_request.specs.Fields.{command_name, field_name, fields_of, listed, number_in}
@@ -59,7 +59,7 @@ option_words field None = []
 option_words field (Some value) = option_name field ++ value ∷ []
 
 -- what a command of the laboratory is asked for beside its options: JSON, and of `check` all of it
-abbrev pub last_words : Command → List (List ℕ)
+abbrev pub last_words : WorkbenchCommand → List (List ℕ)
 last_words Check = codes "--as" ∷ codes "json" ∷ codes "--all" ∷ []
 last_words Run = []
 last_words Explain = codes "--as" ∷ codes "json" ∷ []
@@ -77,7 +77,7 @@ abbrev pub options_in : List Field → Data → List (List ℕ)
 options_in fields d = flat_map (λ f. option_words f (option_value f (get (field_name f) d))) fields
 
 -- the words of the command
-abbrev pub words_of : Command → Data → List (List ℕ)
+abbrev pub words_of : WorkbenchCommand → Data → List (List ℕ)
 words_of command d = command_name command ∷ name_in d ∷ options_in (fields_of command) d ++ last_words command
 
 -- ---- the files

@@ -10,14 +10,14 @@ use crate::files::files_of;
 use crate::first::{first_unknown, first_wrong};
 use crate::refusal::{refuse_body, refuse_key, refuse_wrong};
 use crate::words::words_of;
-use crate::{Command, Commands};
+use crate::{Commands, WorkbenchCommand};
 use mx_io::Memory;
 use serde_json::Value;
 use std::alloc::{AllocError, Global};
 
 /// The bytes of an answer.
 #[derive(Drop)]
-pub struct Answer {
+pub struct Response {
     /// Whether they tell what is wrong with the request, and no command ran.
     pub is_refused: bool,
     pub document: Vec<u8>,
@@ -25,23 +25,27 @@ pub struct Answer {
 
 // The command that is asked for, and the value that its body is.
 #[derive(Clone, Copy)]
-struct Asked<'a> {
-    command: Command,
+struct Request<'a> {
+    command: WorkbenchCommand,
     value: &'a Value,
 }
 
 // The answer to a body with which nothing is wrong.
-fn answer_request<C: Commands>(alloc: Global, commands: &C, asked: Asked) -> Result<Answer, Memory>
+fn answer_request<C: Commands>(
+    alloc: Global,
+    commands: &C,
+    asked: Request,
+) -> Result<Response, Memory>
     ensures { IfOk result (Ran C.ends asked.entry.command (view asked.entry.value.now)) }
 {
-    let Asked { command, value } = asked;
+    let Request { command, value } = asked;
     let Ok(words) = words_of(alloc, command, value) else {
         return Err(Memory);
     };
     let files = files_of(alloc, value)?;
     let ended = commands.run(alloc, command, words.as_slice(), files)?;
     match document(alloc, command, &ended) {
-        Ok(document) => Ok(Answer {
+        Ok(document) => Ok(Response {
             is_refused: false,
             document,
         }),
@@ -50,7 +54,7 @@ fn answer_request<C: Commands>(alloc: Global, commands: &C, asked: Asked) -> Res
 }
 
 // An answer, or that memory ran out.
-fn or_memory(answer: Result<Answer, AllocError>) -> Result<Answer, Memory>
+fn or_memory(answer: Result<Response, AllocError>) -> Result<Response, Memory>
     ensures { result_ok result ≡ result_ok answer }
 {
     match answer {
@@ -60,10 +64,14 @@ fn or_memory(answer: Result<Answer, AllocError>) -> Result<Answer, Memory>
 }
 
 // The answer to a value.
-fn answer_value<C: Commands>(alloc: Global, commands: &C, asked: Asked) -> Result<Answer, Memory>
+fn answer_value<C: Commands>(
+    alloc: Global,
+    commands: &C,
+    asked: Request,
+) -> Result<Response, Memory>
     ensures { IfOk result (Comes C.ends asked.entry.command (view asked.entry.value.now) (refusal_of asked.entry.command (view asked.entry.value.now))) }
 {
-    let Asked { command, value } = asked;
+    let Request { command, value } = asked;
     let Some(members) = value.as_object() else {
         return or_memory(refuse_body(alloc, "no JSON object"));
     };
@@ -81,15 +89,15 @@ fn answer_value<C: Commands>(alloc: Global, commands: &C, asked: Asked) -> Resul
 pub fn answer_body<C: Commands>(
     alloc: Global,
     commands: &C,
-    command: Command,
+    command: WorkbenchCommand,
     body: &[u8],
-) -> Result<Answer, Memory>
+) -> Result<Response, Memory>
     ensures not_json { IfOk result (λ a. ((d : Data) → ¬ Reads body.now d) → Refuses not_json a) }
     ensures comes { IfOk result (λ a. (d : Data) → Reads body.now d → Comes C.ends command d (refusal_of command d) a) }
 {
     match Value::from_slice(alloc, body) {
         Ok(value) => {
-            let asked = Asked {
+            let asked = Request {
                 command,
                 value: &value,
             };

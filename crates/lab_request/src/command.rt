@@ -9,7 +9,7 @@ use crate::Field;
 
 /// A command. All but `run` are the laboratory's.
 #[derive(Clone, Copy)]
-pub enum Command {
+pub enum WorkbenchCommand {
     Check,
     Run,
     Explain,
@@ -25,18 +25,18 @@ pub enum Command {
     Sweep,
 }
 
-static COMMANDS: [Command; 11] = [
-    Command::Check,
-    Command::Run,
-    Command::Explain,
-    Command::Draw,
-    Command::Profile,
-    Command::Compare,
-    Command::Disassemble,
-    Command::Blocks,
-    Command::Planned,
-    Command::Caches,
-    Command::Sweep,
+static COMMANDS: [WorkbenchCommand; 11] = [
+    WorkbenchCommand::Check,
+    WorkbenchCommand::Run,
+    WorkbenchCommand::Explain,
+    WorkbenchCommand::Draw,
+    WorkbenchCommand::Profile,
+    WorkbenchCommand::Compare,
+    WorkbenchCommand::Disassemble,
+    WorkbenchCommand::Blocks,
+    WorkbenchCommand::Planned,
+    WorkbenchCommand::Caches,
+    WorkbenchCommand::Sweep,
 ];
 
 static SOURCE_ALONE: [Field; 2] = [Field::Source, Field::Name];
@@ -118,7 +118,7 @@ static JSON: [&str; 2] = ["--as", "json"];
 static ALL_JSON: [&str; 3] = ["--as", "json", "--all"];
 
 // The first of some commands that has this name.
-fn first_named(commands: &[Command], word: &str) -> Option<Command>
+fn first_named(commands: &[WorkbenchCommand], word: &str) -> Option<WorkbenchCommand>
     ensures { result ≡ find (λ c. bytes_eq (command_name c) word.now) commands.now }
 {
     for command in commands {
@@ -129,9 +129,9 @@ fn first_named(commands: &[Command], word: &str) -> Option<Command>
     None
 }
 
-impl Command {
+impl WorkbenchCommand {
     /// The command of this name.
-    pub fn named(word: &str) -> Option<Command>
+    pub fn named(word: &str) -> Option<WorkbenchCommand>
         ensures { result ≡ command_named word.now }
     {
         first_named(&COMMANDS, word)
@@ -142,17 +142,17 @@ impl Command {
         ensures { result.now ≡ command_name self }
     {
         match self {
-            Command::Check => "check",
-            Command::Run => "run",
-            Command::Explain => "explain",
-            Command::Draw => "draw",
-            Command::Profile => "profile",
-            Command::Compare => "compare",
-            Command::Disassemble => "disassemble",
-            Command::Blocks => "blocks",
-            Command::Planned => "plans",
-            Command::Caches => "caches",
-            Command::Sweep => "interrupts",
+            WorkbenchCommand::Check => "check",
+            WorkbenchCommand::Run => "run",
+            WorkbenchCommand::Explain => "explain",
+            WorkbenchCommand::Draw => "draw",
+            WorkbenchCommand::Profile => "profile",
+            WorkbenchCommand::Compare => "compare",
+            WorkbenchCommand::Disassemble => "disassemble",
+            WorkbenchCommand::Blocks => "blocks",
+            WorkbenchCommand::Planned => "plans",
+            WorkbenchCommand::Caches => "caches",
+            WorkbenchCommand::Sweep => "interrupts",
         }
     }
 
@@ -161,14 +161,15 @@ impl Command {
         ensures { result.now ≡ fields_of self }
     {
         match self {
-            Command::Check | Command::Disassemble | Command::Blocks => &SOURCE_ALONE,
-            Command::Run => &OF_RUN,
-            Command::Draw => &OF_DRAW,
-            Command::Explain | Command::Compare => &OF_A_RUN,
-            Command::Profile => &OF_PROFILE,
-            Command::Planned => &OF_PLANS,
-            Command::Caches => &OF_CACHES,
-            Command::Sweep => &OF_SWEEP,
+            WorkbenchCommand::Check | WorkbenchCommand::Disassemble | WorkbenchCommand::Blocks =>
+                &SOURCE_ALONE,
+            WorkbenchCommand::Run => &OF_RUN,
+            WorkbenchCommand::Draw => &OF_DRAW,
+            WorkbenchCommand::Explain | WorkbenchCommand::Compare => &OF_A_RUN,
+            WorkbenchCommand::Profile => &OF_PROFILE,
+            WorkbenchCommand::Planned => &OF_PLANS,
+            WorkbenchCommand::Caches => &OF_CACHES,
+            WorkbenchCommand::Sweep => &OF_SWEEP,
         }
     }
 
@@ -177,15 +178,15 @@ impl Command {
         ensures { map (λ w. w.now) result.now ≡ last_words self }
     {
         match self {
-            Command::Check => &ALL_JSON,
-            Command::Run | Command::Draw | Command::Planned => &[],
-            Command::Explain
-            | Command::Profile
-            | Command::Compare
-            | Command::Disassemble
-            | Command::Blocks
-            | Command::Caches
-            | Command::Sweep => &JSON,
+            WorkbenchCommand::Check => &ALL_JSON,
+            WorkbenchCommand::Run | WorkbenchCommand::Draw | WorkbenchCommand::Planned => &[],
+            WorkbenchCommand::Explain
+            | WorkbenchCommand::Profile
+            | WorkbenchCommand::Compare
+            | WorkbenchCommand::Disassemble
+            | WorkbenchCommand::Blocks
+            | WorkbenchCommand::Caches
+            | WorkbenchCommand::Sweep => &JSON,
         }
     }
 
@@ -194,17 +195,17 @@ impl Command {
         ensures { result ≡ is_check self }
     {
         match self {
-            Command::Check => true,
-            Command::Run
-            | Command::Explain
-            | Command::Draw
-            | Command::Profile
-            | Command::Compare
-            | Command::Disassemble
-            | Command::Blocks
-            | Command::Planned
-            | Command::Caches
-            | Command::Sweep => false,
+            WorkbenchCommand::Check => true,
+            WorkbenchCommand::Run
+            | WorkbenchCommand::Explain
+            | WorkbenchCommand::Draw
+            | WorkbenchCommand::Profile
+            | WorkbenchCommand::Compare
+            | WorkbenchCommand::Disassemble
+            | WorkbenchCommand::Blocks
+            | WorkbenchCommand::Planned
+            | WorkbenchCommand::Caches
+            | WorkbenchCommand::Sweep => false,
         }
     }
 }

@@ -1,16 +1,16 @@
 //! Who runs commands.
 ghost use Rattle.std.specs.Prelude.{◌≡◌, ℕ, List, false, IfOk, map, string_bytes};
 ghost use Rattle.mx_io.specs.MemoryShelf.{held_in, fails_at};
-ghost use Rattle.lab_request.specs.declared.command.Command.{Command as SomeCommand};
+ghost use Rattle.lab_request.specs.declared.command.WorkbenchCommand.{WorkbenchCommand as SomeCommand};
 ghost use Rattle.lab_request.specs.Requests.{Held};
 
-use crate::Command;
+use crate::WorkbenchCommand;
 use mx_io::{Memory, MemoryShelf};
 use std::alloc::Global;
 
 /// How a command ended: its exit status, and what it printed on standard output and on standard error.
 #[derive(Drop)]
-pub struct Ended {
+pub struct CommandEnd {
     pub status: u8,
     pub output: Vec<u8>,
     pub errors: Vec<u8>,
@@ -25,10 +25,10 @@ pub trait Commands {
     fn run(
         &self,
         alloc: Global,
-        command: Command,
+        command: WorkbenchCommand,
         words: &[String],
         files: MemoryShelf,
-    ) -> Result<Ended, Memory>
+    ) -> Result<CommandEnd, Memory>
         requires { (n : ℕ) → fails_at files n ≡ false }
         ensures { IfOk result (λ e. ends command (map string_bytes words.now) (held_in files) e.status e.output.items e.errors.items) };
 }

@@ -5,7 +5,7 @@ ghost use Rattle.lab_request.specs.Documents.{errors_part, are_lines, is_json, o
 
 use crate::bytes::{push_list, push_string};
 use crate::values::first_byte;
-use crate::{Command, Ended};
+use crate::{CommandEnd, WorkbenchCommand};
 use mx_text::push_decimal;
 use std::alloc::{AllocError, Global};
 
@@ -13,7 +13,7 @@ use std::alloc::{AllocError, Global};
 fn push_front(
     alloc: Global,
     text: &mut Vec<u8>,
-    command: Command,
+    command: WorkbenchCommand,
     status: u8,
 ) -> Result<(), AllocError>
     ensures { OnOk result (text.new.items ≡ text.old.items ++ codes "{\"command\":\"" ++ command_name command
@@ -39,7 +39,7 @@ fn push_errors(text: &mut Vec<u8>, errors: &[u8]) -> Result<(), AllocError>
 }
 
 // Whether an output is a JSON text a line.
-fn are_lines(command: Command, status: u8, output: &[u8]) -> bool
+fn are_lines(command: WorkbenchCommand, status: u8, output: &[u8]) -> bool
     ensures { result ≡ are_lines command status output.now }
 {
     command.is_check() && status < 2 && (output.is_empty() || first_byte(output) == b'{')
@@ -55,7 +55,7 @@ fn is_json(output: &[u8]) -> bool
 // Appends what was printed on standard output.
 fn push_output(
     text: &mut Vec<u8>,
-    command: Command,
+    command: WorkbenchCommand,
     status: u8,
     output: &[u8],
 ) -> Result<(), AllocError>
@@ -74,7 +74,11 @@ fn push_output(
 }
 
 /// The document of how a command ended.
-pub fn document(alloc: Global, command: Command, ended: &Ended) -> Result<Vec<u8>, AllocError>
+pub fn document(
+    alloc: Global,
+    command: WorkbenchCommand,
+    ended: &CommandEnd,
+) -> Result<Vec<u8>, AllocError>
     ensures { IfOk result (λ v. v.items ≡ document command ended.now.status ended.now.output.items ended.now.errors.items) }
 {
     let mut text = Vec::new(alloc);

@@ -16,8 +16,8 @@ mod refusal;
 mod values;
 mod words;
 
-pub use answer::{Answer, answer_body};
-pub use command::Command;
-pub use commands::{Commands, Ended};
+pub use answer::{Response, answer_body};
+pub use command::WorkbenchCommand;
+pub use commands::{CommandEnd, Commands};
 pub use fault::{Fault, Wrong};
 pub use field::Field;

@@ -4,7 +4,7 @@ ghost use Rattle.lab_request.specs.Documents.{field_part, refusal_document};
 ghost use Rattle.lab_request.specs.Answers.{range_words, Refuses, of_body, of_field, unknown_refusal, wrong_refusal};
 
 use crate::bytes::push_string;
-use crate::{Answer, Command, Fault, Wrong};
+use crate::{Fault, Response, WorkbenchCommand, Wrong};
 use mx_text::push_decimal;
 use std::alloc::{AllocError, Global};
 
@@ -52,25 +52,25 @@ fn refusal_document(
 }
 
 /// The refusal of a body.
-pub fn refuse_body(alloc: Global, why: &str) -> Result<Answer, AllocError>
+pub fn refuse_body(alloc: Global, why: &str) -> Result<Response, AllocError>
     ensures { IfOk result (Refuses (of_body why.now)) }
 {
     let document = refusal_document(alloc, why.as_bytes(), None)?;
-    Ok(Answer {
+    Ok(Response {
         is_refused: true,
         document,
     })
 }
 
 // The refusal of a field.
-fn refuse_field(alloc: Global, field: &[u8], why: &[u8]) -> Result<Answer, AllocError>
+fn refuse_field(alloc: Global, field: &[u8], why: &[u8]) -> Result<Response, AllocError>
     ensures { IfOk result (Refuses (of_field field.now why.now)) }
 {
     let mut error = Vec::from_slice(alloc, field)?;
     error.extend_from_slice(b": ")?;
     error.extend_from_slice(why)?;
     let document = refusal_document(alloc, error.as_slice(), Some(field))?;
-    Ok(Answer {
+    Ok(Response {
         is_refused: true,
         document,
     })
@@ -88,7 +88,11 @@ fn first_bytes(bytes: &[u8], most: usize) -> &[u8]
 }
 
 /// The refusal of a key that is no field of the command.
-pub fn refuse_key(alloc: Global, command: Command, key: &str) -> Result<Answer, AllocError>
+pub fn refuse_key(
+    alloc: Global,
+    command: WorkbenchCommand,
+    key: &str,
+) -> Result<Response, AllocError>
     ensures { IfOk result (Refuses (unknown_refusal command key.now)) }
 {
     let mut why = Vec::from_slice(alloc, b"no field of ")?;
@@ -97,7 +101,7 @@ pub fn refuse_key(alloc: Global, command: Command, key: &str) -> Result<Answer, 
 }
 
 /// The refusal of a field that is wrong.
-pub fn refuse_wrong(alloc: Global, wrong: Wrong) -> Result<Answer, AllocError>
+pub fn refuse_wrong(alloc: Global, wrong: Wrong) -> Result<Response, AllocError>
     ensures { IfOk result (Refuses (wrong_refusal wrong)) }
 {
     let mut why = Vec::from_slice(alloc, wrong.fault.words().as_bytes())?;

@@ -6,7 +6,7 @@ ghost use Rattle.lab_request.specs.Fields.{number_in};
 ghost use Rattle.lab_request.specs.Requests.{name_in, plans_file, option_value, option_name, option_words, options_in, words_of};
 
 use crate::values::number_in;
-use crate::{Command, Field};
+use crate::{Field, WorkbenchCommand};
 use serde_json::Value;
 use std::alloc::{AllocError, Global};
 
@@ -182,7 +182,11 @@ fn push_words(alloc: Global, words: &mut Vec<String>, more: &[&str]) -> Result<(
 }
 
 /// The words of the command that a body asks for.
-pub fn words_of(alloc: Global, command: Command, value: &Value) -> Result<Vec<String>, AllocError>
+pub fn words_of(
+    alloc: Global,
+    command: WorkbenchCommand,
+    value: &Value,
+) -> Result<Vec<String>, AllocError>
     ensures { IfOk result (λ w. map string_bytes w.items ≡ words_of command (view value.now)) }
 {
     let mut words = Vec::new(alloc);

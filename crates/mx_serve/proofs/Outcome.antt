@@ -2,15 +2,15 @@
 use Rattle.std.proofs.Common.{◌≡◌, ℕ, List, [], ◌∷◌, ◌++◌, Ok}
 use Rattle.mx_io.specs.Reads.{Read, read_of}
 use Rattle.serde_json.specs.Data.{Data}
-use Rattle.lab_request.specs.declared.Command.{Command}
-use Rattle.lab_request.specs.declared.Answer.{Answer}
+use Rattle.lab_request.specs.declared.WorkbenchCommand.{WorkbenchCommand}
+use Rattle.lab_request.specs.declared.Response.{Response}
 use Rattle.lab_request.specs.Answers.{Reads, Refuses, Comes, not_json, refusal_of}
 use Rattle.mx_serve.specs.declared.serving.Served.{Served}
 use Rattle.mx_serve.specs.declared.serving.Served.TheVariants.{Answered, Refused, Unread, Unprinted, NoMemory}
 use Rattle.mx_serve.specs.Ends.{ends_in}
 use Rattle.mx_serve.specs.Serving.{standard_input, most_body, IsPrinted, IsServed}
 
-pub served_so : (command : Command) (log log' : List Read) (out out' : List ℕ) (faults faults' : ℕ) (body : List ℕ) (answer : Answer)
+pub served_so : (command : WorkbenchCommand) (log log' : List Read) (out out' : List ℕ) (faults faults' : ℕ) (body : List ℕ) (answer : Response)
     → log' ≡ log ++ read_of standard_input most_body (Ok body) ∷ [] → (((d : Data) → ¬ Reads body d) → Refuses not_json answer)
     → ((d : Data) → Reads body d → Comes ends_in command d (refusal_of command d) answer)
     → (served : Served) → IsPrinted answer out out' faults faults' served → IsServed command log log' out out' faults faults' served

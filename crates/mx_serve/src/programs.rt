@@ -6,9 +6,9 @@ ghost use Rattle.embed_call.specs.TextSink.{written_in};
 ghost use Rattle.mx_serve.specs.Ends.{RunEnds};
 
 use cmd_answer::Status;
-use embed_call::{Ended as Answered, QuietShelf, TextSink, ended_on};
+use embed_call::{CallEnd, QuietShelf, TextSink, run_on_shelf};
 use lab_command::{Ended as LabEnded, Unknown, lab};
-use lab_request::{Command, Commands, Ended};
+use lab_request::{CommandEnd, Commands, WorkbenchCommand};
 use lab_watch::Unwatched;
 use mx_io::{Memory, MemoryShelf};
 use std::alloc::Global;
@@ -18,12 +18,12 @@ use std::alloc::Global;
 pub struct Programs;
 
 // How a command of the toolchain ends.
-fn toolchain_ends(alloc: Global, words: &[String], files: MemoryShelf) -> Result<Ended, Memory>
+fn toolchain_ends(alloc: Global, words: &[String], files: MemoryShelf) -> Result<CommandEnd, Memory>
     requires { (n : ℕ) → fails_at files n ≡ false }
     ensures { IfOk result (λ e. RunEnds (map string_bytes words.now) (held_in files) e.status e.output.items e.errors.items) }
 {
-    let Answered { status, output, .. } = ended_on(alloc, words, QuietShelf::of(files))?;
-    Ok(Ended {
+    let CallEnd { status, output, .. } = run_on_shelf(alloc, words, QuietShelf::of(files))?;
+    Ok(CommandEnd {
         status: status.number(),
         output,
         errors: Vec::new(alloc),
@@ -31,14 +31,14 @@ fn toolchain_ends(alloc: Global, words: &[String], files: MemoryShelf) -> Result
 }
 
 // A command of the laboratory that ended so, with all that it put out. Want of memory is none of its answers.
-fn handed_on(ended: LabEnded, out: TextSink) -> Result<Ended, Memory>
+fn handed_on(ended: LabEnded, out: TextSink) -> Result<CommandEnd, Memory>
     ensures { IfOk result (λ e. (e.status ≡ exit_number ended.status) × (e.output.items ≡ written_in out) × (e.errors ≡ ended.errors)) }
 {
     if ended.status == Status::Memory {
         return Err(Memory);
     }
     match out.into_bytes() {
-        Some(output) => Ok(Ended {
+        Some(output) => Ok(CommandEnd {
             status: ended.status.number(),
             output,
             errors: ended.errors,
@@ -52,7 +52,7 @@ fn laboratory_ends(
     alloc: Global,
     words: &[String],
     mut files: MemoryShelf,
-) -> Result<Ended, Memory> {
+) -> Result<CommandEnd, Memory> {
     let mut out = TextSink::new(alloc);
     let ended = lab(alloc, words, &mut files, &mut out, Unwatched, Unknown);
     handed_on(ended, out)
@@ -66,22 +66,22 @@ impl Commands for Programs {
     fn run(
         &self,
         alloc: Global,
-        command: Command,
+        command: WorkbenchCommand,
         words: &[String],
         files: MemoryShelf,
-    ) -> Result<Ended, Memory> {
+    ) -> Result<CommandEnd, Memory> {
         match command {
-            Command::Run => toolchain_ends(alloc, words, files),
-            Command::Check
-            | Command::Explain
-            | Command::Draw
-            | Command::Profile
-            | Command::Compare
-            | Command::Disassemble
-            | Command::Blocks
-            | Command::Planned
-            | Command::Caches
-            | Command::Sweep => laboratory_ends(alloc, words, files),
+            WorkbenchCommand::Run => toolchain_ends(alloc, words, files),
+            WorkbenchCommand::Check
+            | WorkbenchCommand::Explain
+            | WorkbenchCommand::Draw
+            | WorkbenchCommand::Profile
+            | WorkbenchCommand::Compare
+            | WorkbenchCommand::Disassemble
+            | WorkbenchCommand::Blocks
+            | WorkbenchCommand::Planned
+            | WorkbenchCommand::Caches
+            | WorkbenchCommand::Sweep => laboratory_ends(alloc, words, files),
         }
     }
 }

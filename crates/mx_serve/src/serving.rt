@@ -4,7 +4,7 @@ ghost use Rattle.mx_serve.specs.Serving.{IsPrinted, IsServed, served_number};
 
 use crate::programs::Programs;
 use cmd_answer::Status;
-use lab_request::{Answer, Command, answer_body};
+use lab_request::{Response, WorkbenchCommand, answer_body};
 use mx_io::{Shelf, ShelfFault, Sink, put_all};
 use std::alloc::Global;
 
@@ -45,7 +45,7 @@ impl Served {
 }
 
 // Prints an answer.
-fn print<W: Sink>(answer: &Answer, out: &mut W) -> Served
+fn print<W: Sink>(answer: &Response, out: &mut W) -> Served
     ensures { IsPrinted answer.now (W.written out.old) (W.written out.new) (W.faults out.old) (W.faults out.new) result }
 {
     match put_all(out, answer.document.as_slice()) {
@@ -58,7 +58,7 @@ fn print<W: Sink>(answer: &Answer, out: &mut W) -> Served
 /// Serves a request of this command: its body is standard input, of the shelf, and its answer goes to the sink.
 pub fn serve<S: Shelf, W: Sink>(
     alloc: Global,
-    command: Command,
+    command: WorkbenchCommand,
     shelf: &mut S,
     out: &mut W,
 ) -> Served

@@ -22,7 +22,6 @@ mod names;
 #[cfg(test)]
 mod print;
 #[cfg(test)]
-mod same;
 #[cfg(test)]
 mod soak;
 #[cfg(test)]

@@ -1,12 +1,14 @@
-//! Cases in files: each is a line that holds its own answer, which comes from outside.
+//! What tests share: cases in files, each a line that holds its own answer, which comes from outside; and comparisons of two values.
 #![tactic(auto)]
 
 mod cases;
 mod files;
 mod lines;
+mod same;
 mod words;
 
 pub use cases::{Cases, compare, compare_all};
 pub use files::{stored, stored_shelf, wanted, wanted_text, words_of};
 pub use lines::text_of_lines;
+pub use same::{same, same_for};
 pub use words::{answered, before, behind, halves, number};

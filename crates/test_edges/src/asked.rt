@@ -1,5 +1,5 @@
 //! Requests of the workbench.
-use lab_request::{Command, Commands, Ended, answer_body};
+use lab_request::{CommandEnd, Commands, WorkbenchCommand, answer_body};
 use mx_io::{Memory, MemoryShelf, Shelf};
 use std::alloc::{AllocError, Global};
 use std::test::Fail;
@@ -31,10 +31,10 @@ impl Commands for Echo {
     fn run(
         &self,
         alloc: Global,
-        _command: Command,
+        _command: WorkbenchCommand,
         words: &[String],
         mut files: MemoryShelf,
-    ) -> Result<Ended, Memory> {
+    ) -> Result<CommandEnd, Memory> {
         let Ok(output) = spaced(alloc, words) else {
             return Err(Memory);
         };
@@ -44,7 +44,7 @@ impl Commands for Echo {
         } else {
             requests
         };
-        Ok(Ended {
+        Ok(CommandEnd {
             status: 3,
             output,
             errors,
@@ -97,7 +97,7 @@ static NONE: [(&str, &str); 2] = [
 
 // Whether the answer to a body is this document.
 fn is_answered(alloc: Global, name: &str, body: &str, wanted: &str) -> Result<bool, Fail> {
-    let command = Command::named(name).unwrap_or(Command::Run);
+    let command = WorkbenchCommand::named(name).unwrap_or(WorkbenchCommand::Run);
     let answer = answer_body(alloc, &Echo, command, body.as_bytes())?;
     Ok(answer.document.as_slice() == wanted.as_bytes())
 }

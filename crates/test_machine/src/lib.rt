@@ -26,7 +26,6 @@ mod programs;
 #[cfg(test)]
 mod requests;
 #[cfg(test)]
-mod same;
 #[cfg(test)]
 mod traces;
 #[cfg(test)]

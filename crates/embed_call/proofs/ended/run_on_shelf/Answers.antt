@@ -17,7 +17,7 @@ use Rattle.embed_call.specs.QuietShelf.{held_in, told_of, counts_of}
 use Rattle.embed_call.specs.TextSink.{written_in, faults_of}
 use Rattle.embed_call.proofs.Finds.{no_rise, finds_no_fault}
 use Rattle.embed_call.proofs.Writes.{command_writes, file_comes, no_target}
-use Rattle.embed_call.proofs.ended.ended_on.Goals as goal
+use Rattle.embed_call.proofs.ended.run_on_shelf.Goals as goal
 
 -- what is told of an empty sink that took a text
 from_told : (P : List ℕ → List ℕ → Type 0) (w w' text : List ℕ) → w ≡ [] → text ≡ w' → P w w' → P [] text
