@@ -229,25 +229,27 @@ fn slices_of(alloc: Global, texts: &[Vec<u8>]) -> Result<Option<Vec<&[u8]>>, All
 fn texts_reply<'w>(
     alloc: Global,
     options: &CheckOptions,
+    names: &[&str],
     texts: &[&[u8]],
 ) -> Result<Reply, LabFailure<'w>> {
     if texts.is_empty() || texts.len() > MOST_MODULES {
         return Err(LabFailure::Arguments(ArgumentFault::TooManyModules));
     }
     let checked = check_modules(alloc, texts, most_given(options))?;
-    let said = modules_report(alloc, options.sources, &checked, form_given(options));
+    let said = modules_report(alloc, names, &checked, form_given(options));
     printed(status_of(module_sums(&checked)), or_memory(said))
 }
 
-// The reply that tells what is wrong with the modules that the options name.
+// The reply that tells what is wrong with modules of these names.
 fn modules_reply<'w, S: Shelf>(
     alloc: Global,
-    options: &CheckOptions<'_, 'w>,
+    options: &CheckOptions,
     shelf: &mut S,
+    names: &[&'w str],
 ) -> Result<Reply, LabFailure<'w>> {
-    let texts = read_modules(alloc, shelf, options.sources)?;
+    let texts = read_modules(alloc, shelf, names)?;
     match slices_of(alloc, &texts)? {
-        Some(slices) => texts_reply(alloc, options, &slices),
+        Some(slices) => texts_reply(alloc, options, names, &slices),
         None => Err(LabFailure::Arguments(ArgumentFault::TooLongModules)),
     }
 }
@@ -269,8 +271,8 @@ pub fn check_reply<'w, S: Shelf>(
     options: &CheckOptions<'_, 'w>,
     shelf: &mut S,
 ) -> Result<Reply, LabFailure<'w>> {
-    match options.sources {
+    match options.sources.unwrap_or(&[]) {
         [name] => source_reply(alloc, options, shelf, *name),
-        _ => modules_reply(alloc, options, shelf),
+        names => modules_reply(alloc, options, shelf, names),
     }
 }

@@ -140,7 +140,7 @@ fn compared_reply<'w, W: Watcher>(
     stimulus: &Stimulus,
     watcher: W,
 ) -> Result<Reply, LabFailure<'w>> {
-    let names = options.sources;
+    let names = options.sources.unwrap_or(&[]);
     let conditions = Conditions {
         requests: &stimulus.requests,
         input: stimulus.input.as_slice(),
@@ -195,8 +195,9 @@ pub fn compare_reply<'w, S: Shelf, W: Watcher>(
     shelf: &mut S,
     watcher: W,
 ) -> Result<Reply, LabFailure<'w>> {
-    let files = named_files(alloc, options)?;
-    let programs = read_sources(alloc, shelf, options.sources)?;
+    let names = options.sources.unwrap_or(&[]);
+    let files = named_files(alloc, options.columns.unwrap_or(&[]), names.len())?;
+    let programs = read_sources(alloc, shelf, names)?;
     files_reply(
         alloc,
         options,

@@ -3,7 +3,7 @@ ghost use Rattle.std.specs.Prelude.{◌≤◌, length};
 ghost use Rattle.mx_io.specs.declared.limits.TheConstants.{MAX_FILE_BYTES};
 
 use lab_failure::LabFailure;
-use lab_line::{ArgumentFault, CompareOptions};
+use lab_line::ArgumentFault;
 use lab_measures::Conditions;
 use lab_plans::{PlannedFigures, figures_by_plans};
 use lab_runs::{plans_of, unlinked};
@@ -95,17 +95,17 @@ fn add_file<'w>(word: &'w str, files: &mut Vec<NamedFile<'w>>) -> Result<(), Lab
     }
 }
 
-/// The plan files of the columns that the options name, or what is wrong with the first that is wrong. A plan file is that of one
+/// The plan files of columns, beside so many sources, or what is wrong with the first that is wrong. A plan file is that of one
 /// source.
 pub(crate) fn named_files<'w>(
     alloc: Global,
-    options: &CompareOptions<'_, 'w>,
+    columns: &[&'w str],
+    sources: usize,
 ) -> Result<Vec<NamedFile<'w>>, LabFailure<'w>> {
     let mut files = Vec::new(alloc);
-    for word in options.columns {
+    for word in columns {
         add_file(*word, &mut files)?;
     }
-    let sources = options.sources.len();
     if sources > 1 && !files.is_empty() {
         let fault = ArgumentFault::ColumnsOfSeveral(sources);
         return Err(LabFailure::Arguments(fault));

@@ -176,7 +176,7 @@ fn words_delivery<'w, C: Causes>(
 }
 
 // What is delivered by matches.
-fn matched_delivery<'m, 'w: 'm, S: Shelf, T: Watcher, C: Causes>(
+fn matched_delivery<'m, 'w, S: Shelf, T: Watcher, C: Causes>(
     alloc: Global,
     words: &[String],
     matches: &'m ArgMatches<'w>,

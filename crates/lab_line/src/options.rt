@@ -122,11 +122,11 @@ pub struct SweepOptions<'w> {
     pub has_rows: bool,
 }
 
-/// Sources that are compared, and columns for plan files, each as `NAME=FILE`.
+/// Sources that are compared, and columns for plan files, each as `NAME=FILE`; none where there are none.
 #[derive(Clone, Copy)]
 pub struct CompareOptions<'m, 'w> {
-    pub sources: &'m [&'w str],
-    pub columns: &'m [&'w str],
+    pub sources: Option<&'m [&'w str]>,
+    pub columns: Option<&'m [&'w str]>,
     pub stimulus: StimulusNames<'w>,
     pub budget: u32,
     pub form: Form,
@@ -143,7 +143,7 @@ pub enum CheckForm {
 /// The source that is checked, or the modules of a program, and whether all faulty lines are shown.
 #[derive(Clone, Copy)]
 pub struct CheckOptions<'m, 'w> {
-    pub sources: &'m [&'w str],
+    pub sources: Option<&'m [&'w str]>,
     pub is_all: bool,
     pub form: CheckForm,
 }

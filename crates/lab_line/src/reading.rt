@@ -27,14 +27,6 @@ fn source_of<'w>(matches: &ArgMatches<'w>) -> &'w str {
     argument(matches, SOURCE_NAME)
 }
 
-// All values of an argument or an option.
-fn values_of<'m, 'w: 'm>(matches: &'m ArgMatches<'w>, name: &str) -> &'m [&'w str] {
-    match matches.get_strs(name) {
-        Some(values) => values,
-        None => &[],
-    }
-}
-
 // The files that come to a run from outside.
 fn stimulus_of<'w>(matches: &ArgMatches<'w>) -> StimulusNames<'w> {
     StimulusNames {
@@ -138,9 +130,9 @@ fn sweep_options<'w>(matches: &ArgMatches<'w>) -> SweepOptions<'w>
     }
 }
 
-fn compare_options<'m, 'w: 'm>(matches: &'m ArgMatches<'w>) -> CompareOptions<'m, 'w> {
-    let sources = values_of(matches, SOURCE_NAME);
-    let columns = values_of(matches, NAMED_PLANS.name);
+fn compare_options<'m, 'w>(matches: &'m ArgMatches<'w>) -> CompareOptions<'m, 'w> {
+    let sources = matches.get_strs(SOURCE_NAME);
+    let columns = matches.get_strs(NAMED_PLANS.name);
     let stimulus = stimulus_of(matches);
     CompareOptions {
         sources,
@@ -162,8 +154,8 @@ fn check_form(matches: &ArgMatches) -> CheckForm {
     }
 }
 
-fn check_options<'m, 'w: 'm>(matches: &'m ArgMatches<'w>) -> CheckOptions<'m, 'w> {
-    let sources = values_of(matches, SOURCE_NAME);
+fn check_options<'m, 'w>(matches: &'m ArgMatches<'w>) -> CheckOptions<'m, 'w> {
+    let sources = matches.get_strs(SOURCE_NAME);
     CheckOptions {
         sources,
         is_all: flag_of(matches, &ALL),
@@ -227,7 +219,7 @@ fn verify_options<'w>(matches: &ArgMatches<'w>) -> VerifyOptions<'w> {
 }
 
 // The command of this name with what its arguments say, or why it cannot use them.
-fn command_of<'m, 'w: 'm>(
+fn command_of<'m, 'w>(
     name: CommandName,
     matches: &'m ArgMatches<'w>,
 ) -> Result<LabCommand<'m, 'w>, ArgumentFault<'w>>
@@ -260,7 +252,7 @@ pub struct CommandLine<'m, 'w> {
 }
 
 // A command of this name with its matches.
-fn line_of<'m, 'w: 'm>(
+fn line_of<'m, 'w>(
     name: CommandName,
     matches: &'m ArgMatches<'w>,
 ) -> Result<CommandLine<'m, 'w>, ArgumentFault<'w>>
@@ -272,7 +264,7 @@ fn line_of<'m, 'w: 'm>(
 }
 
 /// The command that the arguments ask for, or why it cannot use them; none where they name no command.
-pub fn command_line<'m, 'w: 'm>(
+pub fn command_line<'m, 'w>(
     matches: &'m ArgMatches<'w>,
 ) -> Option<Result<CommandLine<'m, 'w>, ArgumentFault<'w>>>
     ensures { IfSome result (λ asked. IfOk asked (λ line. RunsAsLinked line.command)) }

@@ -10,7 +10,7 @@ use Rattle.cmd_answer.specs.Answer.{Answer, writes}
 use Rattle.lab_plans.specs.declared.linking.LinkedTold.{LinkedTold}
 use Rattle.lab_plans.specs.Linking.{IsLinkedTold}
 use Rattle.lab_line.specs.declared.options.BuildOptions.{BuildOptions}
-use Rattle.lab_runs.specs.Planners.{ArePlansOf}
+use Rattle.lab_runs.specs.PlanFiles.{ArePlansOf}
 use Rattle.lab_runs.specs.Sources.{IsSourceOf}
 
 -- what an image file keeps of a linked source

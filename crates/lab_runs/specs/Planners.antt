@@ -1,31 +1,20 @@
 -- Sources that are linked by a scheduler, or by the plans of a file.
-use Rattle.std.specs.Prelude.{◌≡◌, ℕ, List, length, Ok}
+use Rattle.std.specs.Prelude.{◌≡◌, List}
 use Rattle.mx_io.specs.Shelves.{Told, Counts}
-use Rattle.mx_blocks.specs.declared.block.Block.{Block}
-use Rattle.mx_blocks.specs.Leaders.{AreBlocks}
 use Rattle.mx_source.specs.SourceValue.{SourceValue}
-use Rattle.mx_plans.specs.Files.{LineSaid, lines_said, marks_of, plans_in}
+use Rattle.mx_plans.specs.Files.{lines_said, marks_of}
 use Rattle.mx_plans.specs.declared.PlanLine.{PlanLine}
 use Rattle.mx_plans.specs.Says.{IsProposed}
 use Rattle.mx_plans.specs.Copies.{as_planned}
 use Rattle.cmd_source.specs.declared.sources.Program.{Program}
-use Rattle.lab_failure.specs.declared.failure.LabFile.TheVariants as file
-use Rattle.lab_failure.specs.Files.{IsReadAs}
 use Rattle.lab_line.specs.declared.options.PlansOf.{PlansOf}
 use Rattle.lab_line.specs.declared.options.PlansOf.TheVariants as asked
 use Rattle.lab_plans.specs.Verdicts.{AreTold}
 use Rattle.lab_runs.specs.declared.planners.FilePlans.{FilePlans}
 use Rattle.lab_runs.specs.declared.planners.Planner.{Planner}
 use Rattle.lab_runs.specs.declared.planners.Planner.TheVariants.{Scheduler, File}
+use Rattle.lab_runs.specs.PlanFiles.{ArePlansOf}
 use Rattle.lab_runs.specs.Schedulers.{board, IsLinked, IsLinkedBy}
-
--- the plan file of this name was read, and its text spells these lines for the blocks of the source
-pub record ArePlansOf (told : Told) (name : List ℕ) (source : SourceValue) (before after : Counts) (lines : List LineSaid) : Type 0 where
-  pub text : List ℕ
-  pub read : IsReadAs told file.Plans name text before after
-  pub blocks : List Block
-  pub are : AreBlocks source blocks
-  pub spelled : plans_in (length blocks) text ≡ Ok lines
 
 -- the source is linked by what the lines of a file say, with the copies that they choose, and there is a line for each plan that is not
 -- valid and for copies that a rule forbids

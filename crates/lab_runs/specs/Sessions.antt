@@ -18,7 +18,7 @@ use Rattle.cmd_options.specs.declared.SessionLimits.{SessionLimits}
 use Rattle.cmd_debug.specs.Sessions.{session_protocol}
 use Rattle.lab_line.specs.declared.options.DebugOptions.{DebugOptions}
 use Rattle.lab_runs.specs.declared.stimulus.Stimulus.{Stimulus}
-use Rattle.lab_runs.specs.Planners.{ArePlansOf}
+use Rattle.lab_runs.specs.PlanFiles.{ArePlansOf}
 use Rattle.lab_runs.specs.Sources.{IsSourceOf}
 use Rattle.lab_runs.specs.Stimuli.{AreGiven}
 

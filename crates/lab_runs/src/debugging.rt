@@ -10,7 +10,7 @@ ghost use Rattle.mx_plans.specs.Says.{IsProposed};
 ghost use Rattle.cmd_answer.specs.Replies.{reply_answer};
 ghost use Rattle.cmd_options.specs.Options.{IsAsked};
 ghost use Rattle.lab_runs.specs.declared.stimulus.Stimulus.{Stimulus as Given};
-ghost use Rattle.lab_runs.specs.Planners.{ArePlansOf};
+ghost use Rattle.lab_runs.specs.PlanFiles.{ArePlansOf};
 ghost use Rattle.lab_runs.specs.Refusals.{IsTooFar};
 ghost use Rattle.lab_runs.specs.Sessions.{statement_at, statement_named, IsSessionOf, IsSession, IsDebugOf};
 ghost use Rattle.lab_runs.specs.Stimuli.{AreGiven};

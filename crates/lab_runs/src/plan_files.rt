@@ -4,7 +4,7 @@ ghost use Rattle.mx_io.specs.declared.limits.TheConstants.{MAX_FILE_BYTES};
 ghost use Rattle.mx_blocks.specs.declared.block.Block.{Block};
 ghost use Rattle.mx_blocks.specs.Leaders.{AreBlocks};
 ghost use Rattle.mx_plans.specs.Files.{lines_said, plans_in};
-ghost use Rattle.lab_runs.specs.Planners.{ArePlansOf};
+ghost use Rattle.lab_runs.specs.PlanFiles.{ArePlansOf};
 
 use lab_failure::{LabFailure, LabFile, LineFault, read_lab_file};
 use mx_blocks::blocks;
