@@ -1,15 +1,22 @@
-//! The words of the commands for people who look: which commands and options there are, what the words of one say, and what goes
-//! to standard error.
+//! The arguments of the analysis commands: which commands and options there are, what the arguments of one say, and what goes to
+//! standard error where they are wrong.
 #![tactic(auto)]
 
-mod failure;
+mod arguments;
 mod given;
+mod options;
+mod reading;
 mod table;
 mod words;
 mod wrong;
 
-pub use failure::{Cause, Causes, Unknown, error_text, named, refused_name, unwritten_text};
-pub use given::{Asked, Form, WordRow, file_by, meant_by};
-pub use table::{Command, RunCommand, command_named};
+pub use arguments::{ArgumentFault, MOST_RUNS};
+pub use given::file_by;
+pub use options::{
+    BuildOptions, CachesOptions, CheckForm, CheckOptions, CompareOptions, DebugOptions,
+    DisassembleOptions, DrawOptions, Form, LabCommand, Part, PlansOf, PlansOptions, ProfileOptions,
+    RunOptions, Scheduler, Sort, StimulusNames, SweepOptions, VerifyOptions,
+};
+pub use reading::{CommandLine, command_line};
 pub use words::parse_words;
 pub use wrong::usage_text;
