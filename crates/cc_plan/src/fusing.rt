@@ -129,7 +129,10 @@ fn giver_of(items: &[Item], symbols: &Symbols, from: usize, x: Register) -> Opti
 /// Whether a branch may give a register what it found, once it has compared others.
 fn may_split(found: Comparison, x: Register) -> bool {
     let is_sign = found.condition == Condition::Less
-        && matches!(found.second, Source::Number(0) | Source::Register(Register(0)));
+        && matches!(
+            found.second,
+            Source::Number(0) | Source::Register(Register(0))
+        );
     !is_sign
         && operands(found.rs, found.second) & of(x) == 0
         && (of(Register::STACK) | of(Register::FRAME) | of(Register::LINK)) & of(x) == 0

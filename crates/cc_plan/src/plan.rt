@@ -47,9 +47,17 @@ pub enum Step {
     /// A branch that makes a comparison.
     Fused(Comparison),
     /// A branch that makes a comparison whose truth a register takes too: `taken` where the branch is taken, else the opposite.
-    Split { found: Comparison, into: Register, taken: bool },
+    Split {
+        found: Comparison,
+        into: Register,
+        taken: bool,
+    },
     /// A branch that compares so many low bits of a register, which are shifted to the top of a word, with 0.
-    Bits { rs: Register, count: u8, condition: Condition },
+    Bits {
+        rs: Register,
+        count: u8,
+        condition: Condition,
+    },
 }
 
 /// What is known of a statement from those around it.

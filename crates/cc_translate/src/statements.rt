@@ -5,7 +5,8 @@ use crate::memory::{
     load_statement, store_statement,
 };
 use cc_emit::{
-    Computed, Line, Output, Plain, Routine, Target, Transfer, Word, compute_line, is_short, shift_line,
+    Computed, Line, Output, Plain, Routine, Target, Transfer, Word, compute_line, is_short,
+    shift_line,
 };
 use cc_lines::{
     Condition, Instruction, LinkFrom, Long, Operation, Refusal, Register, Shift, Source, Special,
@@ -96,7 +97,7 @@ fn set_if_not_zero(out: &mut Output, a: u8, rd: u8) -> Result<(), AllocError> {
     ])
 }
 
-/// 1 where a register is less than a number, else 0: the sign of the difference, as no such difference wraps with the sign of `a` taken in.
+/// 1 where a register is less than a number, else 0. That is bit 31 of their difference, which `signs` corrects where it wraps.
 fn set_if_below(
     out: &mut Output,
     signs: Computed,
@@ -115,8 +116,9 @@ fn set_if_below(
     ])
 }
 
-/// How the signs of a difference and of what a number was taken from tell whether that is less, if a statement has the difference
-/// and it is never 2^31 or more off: of an order with signs the number's own sign decides, of one without it is at most 65,536.
+/// What corrects bit 31 of the difference of a register and a number by the register: `or` for a number that is not negative, as a
+/// negative register is less than that; `and` for a negative one, as only a negative register is less; `bic` without signs, as a
+/// register of 2^31 or more is not less. `None` where no statement holds the negated number.
 fn signs_of(condition: Condition, value: u32) -> Option<Computed> {
     if !is_short(value.wrapping_neg().cast_signed()) {
         return None;
