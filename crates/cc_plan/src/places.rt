@@ -463,8 +463,18 @@ fn place_item(program: &Program, knowledge: &mut Knowledge, item: &Item, plan: &
             instruction,
             symbol,
             ..
-        } if !is_gone(plan) => place_one(program, knowledge, instruction, *symbol, plan),
+        } if !is_gone(plan) => {
+            place_one(program, knowledge, instruction, *symbol, plan);
+            forget_split(knowledge, plan);
+        }
         _ => {}
+    }
+}
+
+/// Forgets the register that a branch gives what it found.
+fn forget_split(knowledge: &mut Knowledge, plan: &Plan) {
+    if let Step::Split { into, .. } = plan.step {
+        knowledge.forget(of(into));
     }
 }
 

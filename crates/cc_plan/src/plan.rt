@@ -42,10 +42,22 @@ impl Comparison {
 pub enum Step {
     /// It is translated.
     Kept,
-    /// A comparison that its branch makes.
+    /// What its branch does.
     Gone,
     /// A branch that makes a comparison.
     Fused(Comparison),
+    /// A branch that makes a comparison whose truth a register takes too: `taken` where the branch is taken, else the opposite.
+    Split {
+        found: Comparison,
+        into: Register,
+        taken: bool,
+    },
+    /// A branch that compares so many low bits of a register, which are shifted to the top of a word, with 0.
+    Bits {
+        rs: Register,
+        count: u8,
+        condition: Condition,
+    },
 }
 
 /// What is known of a statement from those around it.

@@ -164,8 +164,7 @@ fn load_word(
 /// The register that takes a word of which a part is loaded: the part's own, if that is free.
 fn part_register(part: Part, rd: u8) -> u8 {
     match part {
-        Part::By(FIRST) if rd == FIRST || rd == 0 => SECOND,
-        Part::By(by) if rd == by || rd == 0 => FIRST,
+        Part::By(by) if rd == by || rd == 0 => SECOND,
         _ => rd,
     }
 }

@@ -5,7 +5,8 @@ use crate::memory::{
     load_statement, store_statement,
 };
 use cc_emit::{
-    Computed, Line, Output, Plain, Routine, Target, Transfer, Word, compute_line, shift_line,
+    Computed, Line, Output, Plain, Routine, Target, Transfer, Word, compute_line, is_short,
+    shift_line,
 };
 use cc_lines::{
     Condition, Instruction, LinkFrom, Long, Operation, Refusal, Register, Shift, Source, Special,
@@ -44,6 +45,36 @@ fn branch(out: &mut Output, found: Comparison, symbol: u32) -> Result<(), AllocE
     branch_to(out, found, Target::Symbol(symbol))
 }
 
+/// A branch that makes a comparison whose truth a register takes too.
+fn split(
+    out: &mut Output,
+    found: Comparison,
+    into: Register,
+    taken: bool,
+    symbol: u32,
+) -> Result<(), AllocError> {
+    constant(out, u32::from(taken), into.0)?;
+    branch(out, found, symbol)?;
+    constant(out, u32::from(!taken), into.0)
+}
+
+/// A branch by so many low bits of a register, which are shifted to the top.
+fn branch_by_bits(
+    out: &mut Output,
+    rs: Register,
+    count: u8,
+    condition: Condition,
+    symbol: u32,
+) -> Result<(), AllocError> {
+    out.shift(0, rs.0, count, SECOND)?;
+    let found = Comparison {
+        condition,
+        rs: Register(SECOND),
+        second: Source::Number(0),
+    };
+    branch(out, found, symbol)
+}
+
 /// 1 where a register is 0, else 0.
 fn set_if_zero(out: &mut Output, a: u8, rd: u8) -> Result<(), AllocError> {
     out.push_all(&[
@@ -64,6 +95,40 @@ fn set_if_not_zero(out: &mut Output, a: u8, rd: u8) -> Result<(), AllocError> {
         compute_line(Computed::Or, 26, a, 26),
         shift_line(26, 0, 31, rd),
     ])
+}
+
+/// 1 where a register is less than a number, else 0. That is bit 31 of their difference, which `signs` corrects where it wraps.
+fn set_if_below(
+    out: &mut Output,
+    signs: Computed,
+    a: u8,
+    value: u32,
+    rd: u8,
+) -> Result<(), AllocError> {
+    out.push_all(&[
+        Line::Plain(Plain::Addi {
+            rs: a,
+            number: value.wrapping_neg().cast_signed(),
+            rd: SECOND,
+        }),
+        compute_line(signs, SECOND, a, SECOND),
+        shift_line(SECOND, 0, 31, rd),
+    ])
+}
+
+/// What corrects bit 31 of the difference of a register and a number by the register: `or` for a number that is not negative, as a
+/// negative register is less than that; `and` for a negative one, as only a negative register is less; `bic` without signs, as a
+/// register of 2^31 or more is not less. `None` where no statement holds the negated number.
+fn signs_of(condition: Condition, value: u32) -> Option<Computed> {
+    if !is_short(value.wrapping_neg().cast_signed()) {
+        return None;
+    }
+    match condition {
+        Condition::Less if value < 0x8000_0000 => Some(Computed::Or),
+        Condition::Less => Some(Computed::And),
+        Condition::Lower if value < 0x8000_0000 => Some(Computed::Bic),
+        _ => None,
+    }
 }
 
 /// 1 where a condition holds of two registers, else 0, by a branch.
@@ -88,6 +153,16 @@ fn set_over(
     ])
 }
 
+/// 1 where a condition holds, else 0: without a branch where a number decides it.
+fn set_against(out: &mut Output, rd: u8, found: Comparison) -> Result<(), AllocError> {
+    if let Source::Number(value) = found.second {
+        if let Some(signs) = signs_of(found.condition, value) {
+            return set_if_below(out, signs, found.rs.0, value, rd);
+        }
+    }
+    set_by_branch(out, rd, found)
+}
+
 /// 1 where a condition holds, else 0, by a branch.
 fn set_by_branch(out: &mut Output, rd: u8, found: Comparison) -> Result<(), AllocError> {
     let a = found.rs.0;
@@ -109,7 +184,7 @@ fn set(out: &mut Output, rd: u8, found: Comparison) -> Result<(), AllocError> {
         Condition::Less if is_zero(found.second) => out.shift(a, 0, 31, rd),
         Condition::Equal if is_zero(found.second) => set_if_zero(out, a, rd),
         Condition::NotEqual if is_zero(found.second) => set_if_not_zero(out, a, rd),
-        _ => set_by_branch(out, rd, found),
+        _ => set_against(out, rd, found),
     }
 }
 
@@ -706,11 +781,10 @@ fn kept(
 }
 
 /// Whether a load from a place leaves the first register as it is.
-fn load_keeps_first(width: Width, rd: Register, place: Option<Place>) -> bool {
+fn load_keeps_first(width: Width, place: Option<Place>) -> bool {
     match (width, place) {
         (Width::Left | Width::Right, _) => false,
-        (_, Some(Place::Byte { .. })) | (Width::Word, Some(Place::Turned { .. })) => true,
-        (_, Some(Place::Turned { by, .. })) => by != rd.0 && rd != Register::ZERO,
+        (_, Some(Place::Byte { .. } | Place::Turned { .. })) => true,
         _ => false,
     }
 }
@@ -739,7 +813,7 @@ fn keeps_first(instruction: &Instruction, place: Option<Place>) -> bool {
             ..
         } => rd != Register::BETWEEN,
         Instruction::Load { width, rd, .. } => {
-            rd != Register::BETWEEN && load_keeps_first(width, rd, place)
+            rd != Register::BETWEEN && load_keeps_first(width, place)
         }
         Instruction::Store { width, .. } => store_keeps_first(width, place),
         Instruction::ToSpecial { .. } | Instruction::Branch { .. } | Instruction::Nop => true,
@@ -764,6 +838,17 @@ fn put_step(
     match (planned.plan.step, planned.symbol) {
         (Step::Gone, _) => Ok(()),
         (Step::Fused(found), Some(symbol)) => branch(out, found, symbol),
+        (Step::Split { found, into, taken }, Some(symbol)) => {
+            split(out, found, into, taken, symbol)
+        }
+        (
+            Step::Bits {
+                rs,
+                count,
+                condition,
+            },
+            Some(symbol),
+        ) => branch_by_bits(out, rs, count, condition, symbol),
         _ => kept(out, program, function, planned),
     }
 }
