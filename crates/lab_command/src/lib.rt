@@ -15,6 +15,4 @@ mod top;
 pub use cmd_answer::Status;
 pub use lab_failure::{Cause, Causes, Unknown};
 pub use lab_output::ExitReport;
-// the name that mx_serve uses
-pub use lab_output::ExitReport as Ended;
 pub use top::lab;

@@ -7,7 +7,7 @@ ghost use Rattle.mx_serve.specs.Ends.{RunEnds};
 
 use cmd_answer::Status;
 use embed_call::{CallEnd, QuietShelf, TextSink, run_on_shelf};
-use lab_command::{Ended as LabEnded, Unknown, lab};
+use lab_command::{ExitReport, Unknown, lab};
 use lab_request::{CommandEnd, Commands, WorkbenchCommand};
 use lab_watch::Unwatched;
 use mx_io::{Memory, MemoryShelf};
@@ -31,7 +31,7 @@ fn toolchain_ends(alloc: Global, words: &[String], files: MemoryShelf) -> Result
 }
 
 // A command of the laboratory that ended so, with all that it put out. Want of memory is none of its answers.
-fn handed_on(ended: LabEnded, out: TextSink) -> Result<CommandEnd, Memory>
+fn handed_on(ended: ExitReport, out: TextSink) -> Result<CommandEnd, Memory>
     ensures { IfOk result (λ e. (e.status ≡ exit_number ended.status) × (e.output.items ≡ written_in out) × (e.errors ≡ ended.errors)) }
 {
     if ended.status == Status::Memory {
