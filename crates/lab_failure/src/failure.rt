@@ -105,7 +105,7 @@ pub enum LabFailure<'w> {
 impl LabFailure<'_> {
     /// How a command ends by it.
     pub fn status(self) -> Status
-        ensures { result ≡ status_of self }
+        ensures { result ≡ status_of self.entry }
     {
         match self {
             LabFailure::Memory => Status::Memory,

@@ -23,11 +23,18 @@ pub fn read_lab_file<'w, S: Shelf>(
     ensures told_stays { S.told shelf.new ≡ S.told shelf.old }
     ensures writes_stay { S.write_faults shelf.new ≡ S.write_faults shelf.old }
 {
-    let fault = match shelf.read(alloc, file_by(name), kind.limit()) {
-        Ok(bytes) => return Ok(bytes),
-        Err(ShelfFault::Failed) => ReadFault::Failed,
-        Err(ShelfFault::TooLong) => ReadFault::TooLong,
-        Err(ShelfFault::Memory) => return Err(LabFailure::Memory),
-    };
-    Err(LabFailure::Unread { name, kind, fault })
+    match shelf.read(alloc, file_by(name), kind.limit()) {
+        Ok(bytes) => Ok(bytes),
+        Err(ShelfFault::Failed) => Err(LabFailure::Unread {
+            name,
+            kind,
+            fault: ReadFault::Failed,
+        }),
+        Err(ShelfFault::TooLong) => Err(LabFailure::Unread {
+            name,
+            kind,
+            fault: ReadFault::TooLong,
+        }),
+        Err(ShelfFault::Memory) => Err(LabFailure::Memory),
+    }
 }
