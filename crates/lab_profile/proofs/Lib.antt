@@ -5,3 +5,4 @@ pub mod Totals
 pub mod Charged
 pub mod Still
 pub mod Gathered
+pub mod EachColumn

@@ -1,6 +1,7 @@
 -- What the words of a code cost, by the statements that they come from.
-use Rattle.std.specs.Prelude.{◌≡◌, ℕ, ◌+◌, ◌-◌, ◌^◌, ◌<◌, min, cond, eqb, List, length, slice_index, slice_index_or}
+use Rattle.std.specs.Prelude.{◌≡◌, ℕ, suc, ◌+◌, ◌-◌, ◌^◌, ◌<◌, min, cond, eqb, List, [], ◌∷◌, length, slice_index, slice_index_or}
 use Rattle.mx_link.specs.declared.linked.Origin.{Origin}
+use Rattle.mx_link.specs.declared.linked.Origin.TheVariants.{Own, Copy, Pad}
 use Rattle.mx_link.specs.Gathered.{gathered}
 use Rattle.lab_profile.specs.declared.lines.LineCost.{LineCost}
 use Rattle.lab_profile.specs.declared.tally.Tally.{Tally}
@@ -64,3 +65,92 @@ LinesFollowStatements =
     (lines : List ℕ) (costs sums : List LineCost) (f : ℕ → ℕ) → CountsLines lines costs sums
     → ((k : ℕ) → k < length costs → executed_of costs k ≡ f k)
     → (n : ℕ) → n < length sums → executed_of sums n ≡ saturated (sum_below (λ k. cond (eqb (slice_index lines k) n) (f k) 0) (length costs))
+
+-- the sum of two costs, column by column
+abbrev pub plus : LineCost → LineCost → LineCost
+plus a b = record {
+  executed = saturated (a.executed + b.executed);
+  cycles = saturated (a.cycles + b.cycles);
+  stalls = saturated (a.stalls + b.stalls);
+  noops = saturated (a.noops + b.noops);
+  cancelled = saturated (a.cancelled + b.cancelled);
+  killed = saturated (a.killed + b.killed);
+  squashes = saturated (a.squashes + b.squashes);
+  penalty = saturated (a.penalty + b.penalty);
+}
+
+-- a cost of a list, by its number
+abbrev pub cost_of : List LineCost → ℕ → LineCost
+cost_of costs i = slice_index_or costs i no_cost
+
+-- what a place cost: its stalls are the cycles without a fetch, and killed are the fetches whose word came to MEM neither executed nor squashed
+abbrev pub place_cost : Tally → ℕ → LineCost
+place_cost t k = record {
+  executed = slice_index t.executed.items k;
+  cycles = slice_index t.cycles.items k;
+  stalls = slice_index t.cycles.items k - slice_index t.fetches.items k;
+  noops = 0;
+  cancelled = slice_index t.cancelled.items k;
+  killed = (slice_index t.fetches.items k - slice_index t.executed.items k) - slice_index t.cancelled.items k;
+  squashes = slice_index t.squashes.items k;
+  penalty = slice_index t.penalty.items k;
+}
+
+-- what a word of the code cost: an executed no-op is no executed statement, and no branch
+abbrev pub word_cost : Tally → ℕ → Origin → LineCost
+word_cost t k Pad = record {
+  executed = 0;
+  cycles = (place_cost t k).cycles;
+  stalls = (place_cost t k).stalls;
+  noops = (place_cost t k).executed;
+  cancelled = (place_cost t k).cancelled;
+  killed = (place_cost t k).killed;
+  squashes = (place_cost t k).squashes;
+  penalty = 0;
+}
+word_cost t k _ = place_cost t k
+
+-- the last statement whose own word is not after a word; before that word it was this one
+abbrev pub owner_at : ℕ → Origin → ℕ
+owner_at before (Own i) = i
+owner_at before _ = before
+
+-- the statement that a word is charged to: the one that it comes from, and for a no-op this owner
+abbrev pub payer : ℕ → Origin → ℕ
+payer owner (Own i) = i
+payer owner (Copy i) = i
+payer owner Pad = owner
+
+-- what is charged to statement i in a column, for words with these origins that have numbers from k on; the last own word before them is that of
+-- this statement
+abbrev pub charged : (LineCost → ℕ) → Tally → ℕ → ℕ → ℕ → List Origin → ℕ
+charged column t i k before [] = 0
+charged column t i k before (from ∷ origins) =
+    cond (eqb (payer (owner_at before from) from) i) (column (word_cost t k from)) 0 + charged column t i (suc k) (owner_at before from) origins
+
+-- each column of a cost is what this function gives for the column
+pub record HasColumns (sum_in : (LineCost → ℕ) → ℕ) (c : LineCost) : Type 0 where
+  pub executed : c.executed ≡ saturated (sum_in (λ x. x.executed))
+  pub cycles : c.cycles ≡ saturated (sum_in (λ x. x.cycles))
+  pub stalls : c.stalls ≡ saturated (sum_in (λ x. x.stalls))
+  pub noops : c.noops ≡ saturated (sum_in (λ x. x.noops))
+  pub cancelled : c.cancelled ≡ saturated (sum_in (λ x. x.cancelled))
+  pub killed : c.killed ≡ saturated (sum_in (λ x. x.killed))
+  pub squashes : c.squashes ≡ saturated (sum_in (λ x. x.squashes))
+  pub penalty : c.penalty ≡ saturated (sum_in (λ x. x.penalty))
+
+-- each column of so many statements is that of the words charged to them
+abbrev pub AreStatementCosts : ℕ → List Origin → Tally → List LineCost → Type 0
+AreStatementCosts statements origins t costs =
+    (i : ℕ) → i < statements → HasColumns (λ column. charged column t i 0 0 origins) (cost_of costs i)
+
+-- each column of each line is that of its statements together
+abbrev pub on_line : (LineCost → ℕ) → ℕ → List ℕ → List LineCost → ℕ → ℕ
+on_line column n lines costs count = sum_below (λ k. cond (eqb (slice_index lines k) n) (column (cost_of costs k)) 0) count
+
+abbrev pub AreLineCosts : List ℕ → List LineCost → List LineCost → Type 0
+AreLineCosts lines costs sums = (n : ℕ) → n < length sums → HasColumns (λ column. on_line column n lines costs (length costs)) (cost_of sums n)
+
+-- each column is that of all of them together
+abbrev pub IsTotal : List LineCost → LineCost → Type 0
+IsTotal costs sum = HasColumns (λ column. sum_below (λ i. column (cost_of costs i)) (length costs)) sum

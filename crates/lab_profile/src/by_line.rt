@@ -1,6 +1,6 @@
 //! The costs of the statements of a source, gathered by its lines.
 ghost use Rattle.std.specs.Prelude.{◌≡◌, ◌<◌, ℕ, IfOk, length, slice_index};
-ghost use Rattle.lab_profile.specs.Lines.{CountsLines, ChargesLines};
+ghost use Rattle.lab_profile.specs.Lines.{AreLineCosts, CountsLines, ChargesLines};
 
 use crate::lines::{LineCost, NO_COST, add};
 use std::alloc::{AllocError, Global};
@@ -25,6 +25,7 @@ pub fn costs_by_line(
 ) -> Result<Vec<LineCost>, AllocError>
     requires { length lines.now ≡ length costs.now }
     ensures each { IfOk result (λ sums. (k : ℕ) → k < length lines.now → slice_index lines.now k < length sums.items) }
+    ensures columns { IfOk result (λ sums. AreLineCosts lines.now costs.now sums.items) }
     ensures executed { IfOk result (λ sums. CountsLines lines.now costs.now sums.items) }
     ensures penalty { IfOk result (λ sums. ChargesLines lines.now costs.now sums.items) }
 {

@@ -2,6 +2,7 @@
 ghost use Rattle.std.specs.Prelude.{◌≡◌, ◌<◌, ◌+◌, ℕ, cond, eqb, IfOk, length, slice_index};
 ghost use Rattle.mx_link.specs.Gathered.{is_of};
 ghost use Rattle.lab_profile.specs.Lines.{saturated, caused_in, executed_of, executed_together, penalty_of, penalty_together, CountsStatements, ChargesStatements};
+ghost use Rattle.lab_profile.specs.Lines.{plus, cost_of, place_cost, word_cost, payer, owner_at, AreStatementCosts, IsTotal};
 
 use crate::tally::Tally;
 use mx_link::Origin;
@@ -44,8 +45,7 @@ pub(crate) const NO_COST: LineCost = LineCost {
 impl LineCost {
     /// Both costs.
     pub fn plus(self, other: LineCost) -> LineCost
-        ensures executed { result.executed ≡ saturated (self.executed + other.executed) }
-        ensures penalty { result.penalty ≡ saturated (self.penalty + other.penalty) }
+        ensures { result ≡ plus self other }
     {
         LineCost {
             executed: self.executed.saturating_add(other.executed),
@@ -79,40 +79,31 @@ fn entry(list: &[u64], at: usize) -> u64
     }
 }
 
-/// What a place cost beside what was executed there, and the penalty of its branch.
-fn cost_beside(tally: &Tally, place: usize) -> LineCost
-    ensures executed { result.executed ≡ 0 }
-    ensures penalty { result.penalty ≡ 0 }
+/// What a place cost as that of no word of a statement: the handler, or what lies behind the code. A word of a statement costs the same.
+pub fn cost_at(tally: &Tally, place: usize) -> LineCost
+    ensures { result ≡ place_cost tally.now place }
 {
     let cycles = entry(tally.cycles.as_slice(), place);
     let fetches = entry(tally.fetches.as_slice(), place);
     let executed = entry(tally.executed.as_slice(), place);
     let cancelled = entry(tally.cancelled.as_slice(), place);
     LineCost {
+        executed,
         cycles,
         stalls: cycles.saturating_sub(fetches),
+        noops: 0,
         cancelled,
         killed: fetches.saturating_sub(executed).saturating_sub(cancelled),
         squashes: entry(tally.squashes.as_slice(), place),
-        ..NO_COST
-    }
-}
-
-/// What a place cost that is no word of a statement: the handler, or what lies behind the code.
-pub fn cost_at(tally: &Tally, place: usize) -> LineCost
-    ensures executed { result.executed ≡ slice_index tally.now.executed.items place }
-    ensures penalty { result.penalty ≡ slice_index tally.now.penalty.items place }
-{
-    LineCost {
-        executed: entry(tally.executed.as_slice(), place),
         penalty: entry(tally.penalty.as_slice(), place),
-        ..cost_beside(tally, place)
     }
 }
 
 /// Adds to the cost of a statement, or of a line.
 pub(crate) fn add(costs: &mut Vec<LineCost>, statement: u32, cost: LineCost)
     ensures size { length costs.new.items ≡ length costs.old.items }
+    ensures each { (i : ℕ) → i < length costs.old.items
+        → cost_of costs.new.items i ≡ cond (eqb statement i) (plus (cost_of costs.old.items i) cost) (cost_of costs.old.items i) }
     ensures executed { (i n : ℕ) → i < length costs.old.items → executed_of costs.old.items i ≡ saturated n
         → executed_of costs.new.items i ≡ saturated (n + cond (eqb statement i) cost.executed 0) }
     ensures penalty { (i n : ℕ) → i < length costs.old.items → penalty_of costs.old.items i ≡ saturated n
@@ -126,16 +117,20 @@ pub(crate) fn add(costs: &mut Vec<LineCost>, statement: u32, cost: LineCost)
 
 /// The statement that a word of the code comes from, or for a no-op its owner, and what the word cost it.
 fn word_cost(tally: &Tally, place: usize, from: Origin, owner: u32) -> (u32, LineCost)
+    ensures payer { result.0 ≡ payer owner from }
+    ensures cost { result.1 ≡ word_cost tally.now place from }
     ensures executed { (i : ℕ) → cond (eqb result.0 i) result.1.executed 0 ≡ cond (is_of i from) (slice_index tally.now.executed.items place) 0 }
     ensures penalty { (i : ℕ) → cond (eqb result.0 i) result.1.penalty 0 ≡ cond (is_of i from) (slice_index tally.now.penalty.items place) 0 }
 {
     match from {
         Origin::Own(i) | Origin::Copy(i) => (i, cost_at(tally, place)),
         Origin::Pad => {
-            let noops = entry(tally.executed.as_slice(), place);
+            let word = cost_at(tally, place);
             let cost = LineCost {
-                noops,
-                ..cost_beside(tally, place)
+                executed: 0,
+                noops: word.executed,
+                penalty: 0,
+                ..word
             };
             (owner, cost)
         }
@@ -145,6 +140,8 @@ fn word_cost(tally: &Tally, place: usize, from: Origin, owner: u32) -> (u32, Lin
 /// Adds what a word of the code cost. `owner` is the last statement whose own word stands before it.
 fn add_word(costs: &mut Vec<LineCost>, tally: &Tally, place: usize, from: Origin, owner: u32)
     ensures size { length costs.new.items ≡ length costs.old.items }
+    ensures each { (i : ℕ) → i < length costs.old.items → cost_of costs.new.items i
+        ≡ cond (eqb (payer owner from) i) (plus (cost_of costs.old.items i) (word_cost tally.now place from)) (cost_of costs.old.items i) }
     ensures executed { (i n : ℕ) → i < length costs.old.items → executed_of costs.old.items i ≡ saturated n
         → executed_of costs.new.items i ≡ saturated (n + cond (is_of i from) (slice_index tally.now.executed.items place) 0) }
     ensures penalty { (i n : ℕ) → i < length costs.old.items → penalty_of costs.old.items i ≡ saturated n
@@ -155,7 +152,9 @@ fn add_word(costs: &mut Vec<LineCost>, tally: &Tally, place: usize, from: Origin
 }
 
 /// The last statement whose own word stands up to a word from there, where `owner` is the one before it.
-fn owner_at(owner: u32, from: Origin) -> u32 {
+fn owner_at(owner: u32, from: Origin) -> u32
+    ensures { result ≡ owner_at owner from }
+{
     match from {
         Origin::Own(i) => i,
         Origin::Copy(_) | Origin::Pad => owner,
@@ -171,6 +170,7 @@ pub fn line_costs(
     tally: &Tally,
 ) -> Result<Vec<LineCost>, AllocError>
     ensures size { IfOk result (λ costs. length costs.items ≡ statements) }
+    ensures columns { IfOk result (λ costs. AreStatementCosts statements origin.now tally.now costs.items) }
     ensures executed { IfOk result (λ costs. CountsStatements statements origin.now tally.now costs.items) }
     ensures penalty { IfOk result (λ costs. ChargesStatements statements origin.now tally.now costs.items) }
 {
@@ -186,6 +186,7 @@ pub fn line_costs(
 
 /// All costs together.
 pub fn total(costs: &[LineCost]) -> LineCost
+    ensures columns { IsTotal costs.now result }
     ensures executed { result.executed ≡ saturated (executed_together costs.now) }
     ensures penalty { result.penalty ≡ saturated (penalty_together costs.now) }
 {

@@ -7,3 +7,5 @@ pub mod Ready
 pub mod Asked
 pub mod Picked
 pub mod Sites
+pub mod Followed
+pub mod Rising

@@ -13,7 +13,7 @@ mod rule;
 
 pub use copies::copy_verdicts;
 pub use file::{PlanError, PlanFault, PlanLine, read_marks, read_plans};
-pub use laws::{greedy_plan_is_printed, rules_are_of_valid_plans};
+pub use laws::{copies_follow_lines, greedy_plan_is_printed, rules_are_of_valid_plans};
 pub use linking::{lay_planned, link_lines, link_planned_plain};
 pub use mark::Mark;
 pub use pieces::first_piece;

@@ -1,5 +1,6 @@
 //! Linking by the plans of a file.
 ghost use Rattle.std.specs.Prelude.{◌≡◌, ◌≤◌, ◌+◌, ◌*◌, IfOk, IfErr, OnOk, length, map};
+ghost use Rattle.std.specs.List.Sorted.{IsNonDecreasing};
 ghost use Rattle.mx_blocks.specs.declared.Block.{Block};
 ghost use Rattle.mx_layout.specs.Kept.{AreKept};
 ghost use Rattle.mx_layout.specs.Overlong.{IsRefusal};
@@ -43,6 +44,7 @@ fn lay_by<L: Lines>(
     lines: &[PlanLine],
 ) -> Result<Layout, LinkError>
     requires room { place.code + 3 * length source.now.statements ≤ 65535 }
+    requires rising { IsNonDecreasing firsts.now }
     requires tells { (block : Block) → line_at (marks_of_lines lines.now) (number_below firsts.now block.first) ≡ L.marks block }
     ensures laid { IfOk result (IsLaidAt source.now place) }
     ensures kept { IfOk result (λ l. AreKept (λ block plan. Proposes (L.marks block) block plan) l.rejected (sites_of l) l.proposals.items) }

@@ -1,6 +1,7 @@
 //! The proposer of what a plan file says.
-ghost use Rattle.std.specs.Prelude.{◌≡◌, ◌≤◌, ◌<◌, length, IfSome};
+ghost use Rattle.std.specs.Prelude.{◌≡◌, ◌≤◌, ◌<◌, ltb, length, IfSome};
 ghost use Rattle.std.specs.List.{position};
+ghost use Rattle.std.specs.List.Sorted.{IsNonDecreasing};
 ghost use Rattle.mx_blocks.specs.declared.Block.{Block};
 ghost use Rattle.mx_plans.specs.Marks.{IsSaid, place_said, is_terminator};
 ghost use Rattle.mx_plans.specs.Says.{Proposes, number_below, line_at};
@@ -37,6 +38,7 @@ pub(crate) struct FileProposer<'a, L: Lines> {
     pub(crate) firsts: &'a [u32],
     pub(crate) lines: &'a [PlanLine],
     pub(crate) of: PhantomData<L>,
+    ghost rising: { IsNonDecreasing firsts.now },
     ghost tells: { (block : Block) → line_at (marks_of_lines lines.now) (number_below firsts.now block.first) ≡ L.marks block } by { Prim.hlevel marks_set },
 }
 
@@ -52,11 +54,16 @@ impl<'a, L: Lines> Proposer for FileProposer<'a, L> {
     }
 }
 
-/// How many of these numbers are less.
+/// How many of these numbers, which do not fall, are less.
 fn number_below(firsts: &[u32], first: u32) -> usize
+    requires { IsNonDecreasing firsts.now }
     ensures { result ≡ number_below firsts.now first }
 {
-    firsts.iter().filter(|f| **f < first).count()
+    firsts.partition_point(
+        |f: &u32| -> bool
+            ensures { result ≡ ltb f.now first }
+        { *f < first },
+    )
 }
 
 /// The words of a line, of which there are none behind the last.
