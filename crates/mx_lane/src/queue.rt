@@ -2,7 +2,7 @@
 ghost use Rattle.std.specs.Prelude.{◌≡◌, ◌<◌, ◌≤◌, ◌+◌, ◌-◌, ◌^◌, ◌++◌, ◌∷◌, ◌&&◌, not, false, true, ℕ, List, IfOk, OnOk, IfSome, IfNone, slice_index};
 ghost use Rattle.mx_isa.specs.Words.{Words, reg};
 ghost use Rattle.mx_isa.specs.Views.{dest, is_halt};
-ghost use Rattle.mx_delay.specs.Delay.{Code, next_of};
+ghost use Rattle.mx_delay.specs.Delay.{Code, next_of, idle};
 ghost use Rattle.mx_icache.specs.Residency.{resident};
 ghost use Rattle.mx_board.specs.Contents.{Contents};
 ghost use Rattle.mx_turn.specs.declared.latches.Latches.{Latches as Shown};
@@ -129,6 +129,7 @@ impl Queue {
     fn move_on(&mut self, lead: &Lead)
         requires code_address { IfSome lead.now.target (λ a. a < 2 ^ 31) }
         ensures state { MovesBy (record { target = lead.now.target; cancels = lead.now.cancels }) self.old self.new }
+        ensures next { self.new.next ≡ fetch_of (next_of lead.now.target self.old.next.address) }
         ensures counts { self.new.counts ≡ self.old.counts }
         ensures missed { self.new.missed ≡ self.old.missed }
         ensures window { self.new.window ≡ self.old.window }
@@ -148,6 +149,7 @@ impl Queue {
     fn follow(&mut self, inst: &Inst, lane: &Lane) -> Option<bool>
         ensures state { IfSome result (λ c. DecidesBy inst.now (lead_of inst.now self.old lane.now) self.old lane.now self.new lane.now) }
         ensures cancels { IfSome result (λ c. c ≡ (lead_of inst.now self.old lane.now).cancels) }
+        ensures next { IfSome result (λ c. self.new.next ≡ fetch_of (next_of (lead_of inst.now self.old lane.now).target self.old.next.address)) }
         ensures counts { self.new.counts ≡ self.old.counts }
         ensures missed { self.new.missed ≡ self.old.missed }
         ensures window { self.new.window ≡ self.old.window }
@@ -510,6 +512,54 @@ impl Queue {
         1
     }
 
+    // Whether the fetch of the turn was a hit, and the next one is in the window, and not a saved one.
+    fn is_near<C: FetchCache>(&self, inst: &Inst, lane: &Lane, cache: &C) -> bool
+        requires known { AreKnown C.holds self.now cache.now }
+        ensures resident { result ≡ true → (past : List ℕ) → C.holds cache.now past
+            → resident past (next_of (lead_of inst.now self.now lane.now).target self.now.next.address) ≡ true }
+        ensures keeps { result ≡ true → (past : List ℕ) → C.holds cache.now past
+            → C.holds cache.now (next_of (lead_of inst.now self.now lane.now).target self.now.next.address ∷ past) }
+        ensures hit { result ≡ true → self.now.missed ≡ false }
+    {
+        if self.missed {
+            return false;
+        }
+        let Some(lead) = self.transfer(inst, lane) else {
+            return false;
+        };
+        let coming = led_to(lead.target, &self.next);
+        self.window.has(coming.address(), cache)
+    }
+
+    // The turn is counted, where the next fetch is resident. Answers its cycles, as above.
+    fn count_short<C: FetchCache>(&mut self, left: u64, cancels: bool, _cache: &C) -> u64
+        requires counting { IsCounting left self.old }
+        requires left { 1 ≤ left }
+        requires known { AreKnown C.holds self.old _cache.now }
+        requires missed { self.old.missed ≡ false }
+        requires resident { (past : List ℕ) → C.holds _cache.now past → resident past self.old.next.address ≡ true }
+        requires keeps { (past : List ℕ) → C.holds _cache.now past → C.holds _cache.now (self.old.next.address ∷ past) }
+        ensures cycles { (past : List ℕ) → C.holds _cache.now past → result ≡ turn_cycles (resident past self.old.next.address) }
+        ensures few { result ≤ 1 }
+        ensures within { left - result ≤ self.new.mark }
+        ensures total { self.new.counts.cycles + self.new.mark ≡ self.old.counts.cycles + self.old.mark }
+        ensures counts { (past : List ℕ) → C.holds _cache.now past → (caught_up (left - result) self.new).counts
+            ≡ turn_counts (resident past self.old.next.address) (after_turn self.old.missed cancels false (caught_up left self.old).counts) }
+        ensures missed { (past : List ℕ) → C.holds _cache.now past → self.new.missed ≡ not (resident past self.old.next.address) }
+        ensures cache { (past : List ℕ) → C.holds _cache.now past → C.holds _cache.now (self.old.next.address ∷ past) }
+        ensures known { AreKnown C.holds self.new _cache.now }
+        ensures rest { self.new ≡ record self.old {
+          counts = self.new.counts;
+          missed = self.new.missed;
+          window = self.new.window;
+          other = self.new.other;
+          mark = self.new.mark;
+        } }
+    {
+        self.count_later(left, cancels);
+        1
+    }
+
     // One turn of a word, with the stalled cycles of the next fetch. Answers how many cycles they are; 0, and nothing is done,
     // where the word is a halt.
     #[inline(always)]
@@ -574,6 +624,34 @@ impl Queue {
             → console.new.items ≡ console.old.items ++ later_bytes code board.old.input n m) }
     {
         self.turn_of(left, inst, lane, board, cache, console)
+    }
+
+    // The same where the word does nothing: its instruction is made in a call of its own, and so not in each turn.
+    #[inline(never)]
+    fn turn_idle<C: FetchCache>(
+        &mut self,
+        left: u64,
+        lane: &mut Lane,
+        board: &mut Board,
+        cache: &mut C,
+        console: &mut Vec<u8>,
+    ) -> Result<u64, AllocError>
+        requires counting { IsCounting left self.old }
+        requires left { 3 ≤ left }
+        requires known { AreKnown C.holds self.old cache.old }
+        ensures few { IfOk result (λ n. n ≤ 3) }
+        ensures within { IfOk result (λ n. left - n ≤ self.new.mark) }
+        ensures total { OnOk result (self.new.counts.cycles + self.new.mark ≡ self.old.counts.cycles + self.old.mark) }
+        ensures input { board.new.input ≡ board.old.input }
+        ensures known { OnOk result (AreKnown C.holds self.new cache.new) }
+        ensures next { IfOk result (λ n. (code : Code) (m : State) → idle ≡ live code self.old.alu
+            → InTurn C.holds code m (joined (caught_up left self.old) lane.old) board.old cache.old
+            → InTurn C.holds code (quietly code board.old.input n m) (joined (caught_up (left - n) self.new) lane.new) board.new cache.new) }
+        ensures console { IfOk result (λ n. (code : Code) (m : State) → idle ≡ live code self.old.alu
+            → InTurn C.holds code m (joined (caught_up left self.old) lane.old) board.old cache.old
+            → console.new.items ≡ console.old.items ++ later_bytes code board.old.input n m) }
+    {
+        self.turn_of(left, &Inst::default(), lane, board, cache, console)
     }
 
     // The same, with a way of its own for each kind of word that is frequent: the compiler then tests the kind once, also
@@ -645,11 +723,111 @@ impl Queue {
     {
         match code.get(self.alu) {
             Some(inst) => self.turn_by_kind(left, inst, lane, board, cache, console),
-            None => self.turn_apart(left, &Inst::default(), lane, board, cache, console),
+            None => self.turn_idle(left, lane, board, cache, console),
         }
     }
 
-    // Turns without a request, while there is room for the longest. Answers how many cycles are left.
+    // One turn of a word with room for one cycle alone: 0, and nothing is done, also where the next fetch is not in the window, or is a
+    // saved one.
+    fn short_turn<C: FetchCache>(
+        &mut self,
+        left: u64,
+        inst: &Inst,
+        lane: &mut Lane,
+        board: &mut Board,
+        cache: &C,
+        console: &mut Vec<u8>,
+    ) -> Result<u64, AllocError>
+        requires counting { IsCounting left self.old }
+        requires left { 1 ≤ left }
+        requires fits { ShiftFits inst.now }
+        requires known { AreKnown C.holds self.old cache.now }
+        ensures few { IfOk result (λ n. n ≤ 1) }
+        ensures within { IfOk result (λ n. left - n ≤ self.new.mark) }
+        ensures total { OnOk result (self.new.counts.cycles + self.new.mark ≡ self.old.counts.cycles + self.old.mark) }
+        ensures input { board.new.input ≡ board.old.input }
+        ensures known { OnOk result (AreKnown C.holds self.new cache.now) }
+        ensures next { IfOk result (λ n. (code : Code) (m : State) → inst.now ≡ live code self.old.alu
+            → InTurn C.holds code m (joined (caught_up left self.old) lane.old) board.old cache.now
+            → InTurn C.holds code (quietly code board.old.input n m) (joined (caught_up (left - n) self.new) lane.new) board.new cache.now) }
+        ensures console { IfOk result (λ n. (code : Code) (m : State) → inst.now ≡ live code self.old.alu
+            → InTurn C.holds code m (joined (caught_up left self.old) lane.old) board.old cache.now
+            → console.new.items ≡ console.old.items ++ later_bytes code board.old.input n m) }
+    {
+        if !self.is_near(inst, lane, cache) {
+            return Ok(0);
+        }
+        let Some(cancels) = self.follow(inst, lane) else {
+            return Ok(0);
+        };
+        let byte = self.commit(inst, lane, board);
+        push_byte(console, byte)?;
+        Ok(self.count_short(left, cancels, cache))
+    }
+
+    // The same of the word in ALU. Few turns are among the last: a call of its own keeps the way of the others short.
+    #[inline(never)]
+    fn last_turn<C: FetchCache>(
+        &mut self,
+        left: u64,
+        lane: &mut Lane,
+        code: &Decoded,
+        board: &mut Board,
+        cache: &mut C,
+        console: &mut Vec<u8>,
+    ) -> Result<u64, AllocError>
+        requires counting { IsCounting left self.old }
+        requires left { 1 ≤ left }
+        requires known { AreKnown C.holds self.old cache.old }
+        ensures few { IfOk result (λ n. n ≤ 1) }
+        ensures within { IfOk result (λ n. left - n ≤ self.new.mark) }
+        ensures total { OnOk result (self.new.counts.cycles + self.new.mark ≡ self.old.counts.cycles + self.old.mark) }
+        ensures input { board.new.input ≡ board.old.input }
+        ensures known { OnOk result (AreKnown C.holds self.new cache.new) }
+        ensures next { IfOk result (λ n. (m : State) → InTurn C.holds (code_in code.now) m (joined (caught_up left self.old) lane.old) board.old cache.old
+            → InTurn C.holds (code_in code.now) (quietly (code_in code.now) board.old.input n m)
+            (joined (caught_up (left - n) self.new) lane.new) board.new cache.new) }
+        ensures console { IfOk result (λ n. (m : State) → InTurn C.holds (code_in code.now) m (joined (caught_up left self.old) lane.old) board.old cache.old
+            → console.new.items ≡ console.old.items ++ later_bytes (code_in code.now) board.old.input n m) }
+    {
+        match code.get(self.alu) {
+            Some(inst) => self.short_turn(left, inst, lane, board, cache, console),
+            None => self.short_turn(left, &Inst::default(), lane, board, cache, console),
+        }
+    }
+
+    // A turn, by how many cycles are left.
+    #[inline(always)]
+    fn turn_within<C: FetchCache>(
+        &mut self,
+        left: u64,
+        lane: &mut Lane,
+        code: &Decoded,
+        board: &mut Board,
+        cache: &mut C,
+        console: &mut Vec<u8>,
+    ) -> Result<u64, AllocError>
+        requires counting { IsCounting left self.old }
+        requires left { 1 ≤ left }
+        requires known { AreKnown C.holds self.old cache.old }
+        ensures few { IfOk result (λ n. n ≤ left) }
+        ensures within { IfOk result (λ n. left - n ≤ self.new.mark) }
+        ensures total { OnOk result (self.new.counts.cycles + self.new.mark ≡ self.old.counts.cycles + self.old.mark) }
+        ensures input { board.new.input ≡ board.old.input }
+        ensures known { OnOk result (AreKnown C.holds self.new cache.new) }
+        ensures next { IfOk result (λ n. (m : State) → InTurn C.holds (code_in code.now) m (joined (caught_up left self.old) lane.old) board.old cache.old
+            → InTurn C.holds (code_in code.now) (quietly (code_in code.now) board.old.input n m)
+            (joined (caught_up (left - n) self.new) lane.new) board.new cache.new) }
+        ensures console { IfOk result (λ n. (m : State) → InTurn C.holds (code_in code.now) m (joined (caught_up left self.old) lane.old) board.old cache.old
+            → console.new.items ≡ console.old.items ++ later_bytes (code_in code.now) board.old.input n m) }
+    {
+        if left >= LONGEST_TURN {
+            return self.turn(left, lane, code, board, cache, console);
+        }
+        self.last_turn(left, lane, code, board, cache, console)
+    }
+
+    // Turns without a request, while there is room for them. Answers how many cycles are left.
     #[inline(always)]
     fn turns<C: FetchCache>(
         &mut self,
@@ -674,8 +852,8 @@ impl Queue {
             → console.new.items ≡ console.old.items ++ later_bytes (code_in code.now) board.old.input (most - left) m) }
     {
         let mut left: u64 = most;
-        while left >= LONGEST_TURN {
-            let cycles = self.turn(left, lane, code, board, cache, console)?;
+        while left > 0 {
+            let cycles = self.turn_within(left, lane, code, board, cache, console)?;
             if cycles == 0 {
                 return Ok(left);
             }

@@ -9,9 +9,8 @@ pub loop-left-preserved : goal.loop-left-preserved
 loop-left-preserved g c = record {
   within =
       let few = c.in_ok-cycles.ensures.few in
-      let room = c.loop-left-test.true in
       let before = c.loop-left.invariant.within in
-      omega (arith, few, room, before);
+      omega (arith, few, before);
   counted = c.in_ok-cycles.ensures.within;
   total = c.in_ok-cycles.ensures.total ∙ c.loop-left.invariant.total;
   input = c.in_ok-cycles.ensures.input ∙ c.loop-left.invariant.input;
@@ -26,11 +25,10 @@ loop-left-preserved g c = record {
       let x : MachineState = quietly code input (most - left) m in
       let same = c.loop-left.invariant.input in
       let few = c.in_ok-cycles.ensures.few in
-      let room = c.loop-left-test.true in
       let within = c.loop-left.invariant.within in
-      let more : (most - left) + n ≡ most - (left - n) = omega (arith, few, room, within) in (
+      let more : (most - left) + n ≡ most - (left - n) = omega (arith, few, within) in (
         subst (λ (y : MachineState). InTurn g.C.FetchCache.holds code y
-            (joined (caught_up (left - n) c.turn.new.self) c.turn.new.lane) c.turn.new.board c.turn.new.cache)
+            (joined (caught_up (left - n) c.turn_within.new.self) c.turn_within.new.lane) c.turn_within.new.board c.turn_within.new.cache)
             ((λ k. quietly code (same k) n x) ∙ sym (quietly_more code input (most - left) n m) ∙ ap (λ k. quietly code input k m) more)
             (c.in_ok-cycles.ensures.next x before.0),
         c.in_ok-cycles.ensures.console x before.0
