@@ -112,10 +112,21 @@ CASES = (
     Case("refusals", "refusals.py", "a log that is not there", "checks/refusals.py none", ("none: no such file",)),
     Case("refusals", "refusals.py", "an edit that another goal refuses", """
         name=$(head -n 1 checks/refused.txt | cut -d ' ' -f 1)
-        echo "must-fail $name.edit: refused, as it must be: src/x.rt:1:1: error: another goal" >log; checks/refusals.py log""", ("refused elsewhere",)),
+        echo "must-fail $name.edit: refused, as it must be: src/x.rt:1:1: it is not proved that it holds (\\`returns-clause-x\\`)" >log
+        checks/refusals.py log""", ("refused elsewhere",)),
     Case("refusals", "refusals.py", "an edit that is not refused", """
         name=$(head -n 1 checks/refused.txt | cut -d ' ' -f 1)
         echo "must-fail $name.edit: accepted" >log; checks/refusals.py log""", ("not refused",)),
+    Case("refusals", "refusals.py", "edits that no clause refuses, and a log that is cut off", """
+        names=$(ls crates/mx_pcchain/must-fail); set -- $names; told="refused, as it must be"
+        {
+            echo "must-fail mx_pcchain/$1: $told (only by a limit of the prover, which gave no verdict): src/x.rt:1:1: error: a"
+            echo "must-fail mx_pcchain/$2: $told: note: proofs/x/Answers.antt:1:1: 1 declaration that depends on \\`a\\`, which was rejected, was not"
+            echo "must-fail mx_pcchain/$3: $told (only because a proof file names what the edit took away): proofs/x/Answers.antt:1:1: error: a"
+            echo "must-fail mx_pcchain/$4: $told: src/x.rt:1:1: it is not proved that the invariant of the loop holds (\\`loop-init\\`)"
+        } >log; checks/refusals.py log""",
+         ("refused by a limit of the prover alone", "refused by what depends on another refusal", "refused since a proof misses a name",
+          "refused by no clause", "the log lacks it, so it is cut off")),
     Case("tables", "tables.py", "another range of an option", "plant crates/lab_line/src/table.rt 's/most: MOST_DRAWN/most: MOST_BUDGET/'; checks/tables.py",
          ("FAILED: help of draw --cycles",)),
     Case("tables", "tables.py", "a command that ./mx does not call", "plant mx 's/ | gen | soak)$/ | gen)/'; checks/tables.py", ("FAILED: ./mx calls soak",)),
