@@ -2,13 +2,13 @@
 #![tactic(auto)]
 
 mod cases;
+mod comparing;
 mod files;
 mod lines;
-mod same;
 mod words;
 
 pub use cases::{Cases, compare, compare_all};
+pub use comparing::{same, same_for};
 pub use files::{stored, stored_shelf, wanted, wanted_text, words_of};
 pub use lines::text_of_lines;
-pub use same::{same, same_for};
 pub use words::{answered, before, behind, halves, number};
