@@ -3,7 +3,9 @@ use Rattle.std.proofs.Common.{◌≡◌, ℕ, ◌+◌, ◌<◌, ◌≤◌, Bool,
 use Rattle.std.specs.Prelude.{ltb, map, slice_index_or}
 use Rattle.std.specs.List.{filter}
 use Rattle.std.proofs.lemmas.List.{at_drop_more, drop_all, take_more, take_all}
+use Rattle.lab_measures.specs.declared.row.Row.{Row}
 use Rattle.lab_measures.specs.Spans.{pairs_with, rising_pairs}
+use Rattle.lab_measures.specs.Sweeps.{firsts}
 
 -- a cycle with one more other
 with_one : (first second : ℕ) (later : Bool)
@@ -66,3 +68,13 @@ first_step k d cycles others old new l e f h =
 pub first_end : (k : ℕ) (cycles : List ℕ) (old : List (List ℕ)) → length cycles ≤ k
     → old ++ rising_pairs (drop k cycles) ≡ rising_pairs cycles → old ≡ rising_pairs cycles
 first_end k cycles old l h = sym (append-nil old) ∙ ap (λ xs. old ++ xs) (sym (ap rising_pairs (drop_all k cycles l))) ∙ h
+
+firsts_push : (rows : List Row) (row : Row) → firsts (rows ++ row ∷ []) ≡ firsts rows ++ row.first ∷ []
+firsts_push [] row = refl
+firsts_push (r ∷ rows) row = ap (λ xs. r.first ∷ xs) (firsts_push rows row)
+
+-- one more row, of the next cycle
+pub firsts_more : (rows new : List Row) (row : Row) (cycles : List ℕ) (k d : ℕ) → k < length cycles → new ≡ rows ++ row ∷ []
+    → row.first ≡ slice_index_or cycles k d → firsts rows ≡ take k cycles → firsts new ≡ take (k + 1) cycles
+firsts_more rows new row cycles k d l e f h =
+    ap firsts e ∙ firsts_push rows row ∙ (λ i. h i ++ f i ∷ []) ∙ sym (take_more cycles k d l)
