@@ -1,5 +1,8 @@
--- A run, step by step.
-use Rattle.std.proofs.Common.{◌≡◌, ℕ, suc, List, ◌++◌, option_to_list, refl, sym, ap, ◌∙◌}
+-- Lists with one element changed, and a run, step by step.
+use Rattle.std.proofs.Common.{◌≡◌, ◌≤◌, ℕ, suc, List, ◌++◌, option_to_list, refl, sym, ap, ◌∙◌}
+use Rattle.std.specs.Prelude.{length, slice_set}
+use Rattle.std.proofs.lemmas.List.{set_past}
+use Rattle.cc_meaning.specs.declared.value.Value.{Value}
 use Rattle.cc_program.specs.declared.program.Program.{Program}
 use Rattle.cc_meaning.specs.declared.machine.Stepped.{Stepped}
 use Rattle.cc_meaning.specs.declared.machine.Stepped.TheVariants as stepped
@@ -8,6 +11,10 @@ use Rattle.cc_meaning.specs.States.{State, Outcome, Next, Halted, Stuck}
 use Rattle.cc_meaning.specs.Steps.{step}
 use Rattle.cc_meaning.specs.Runs.{Run, after, run_for}
 use Rattle.cc_meaning.specs.Machines.{answer_of, state_after}
+
+-- outside a list nothing changes
+pub set_outside : (xs : List Value) (i : ℕ) (v : Value) → length xs ≤ i → xs ≡ slice_set xs i v
+set_outside xs i v h = sym (set_past xs i v h)
 
 -- a run after a step that was answered so and left a state
 abbrev pub after_answer : Stepped → State → List ℕ → (State → List ℕ → Run) → Run

@@ -1,5 +1,6 @@
--- The state in which a program starts: its data are in memory, and nothing else is specified but the stack pointer and the link.
-use Rattle.std.specs.Prelude.{ℕ, ◌+◌, ◌-◌, ◌/◌, ◌%◌, Bool, true, false, not, ◌&&◌, if◌then◌else◌, List, [], ◌∷◌, ◌++◌, take, length, fold, replicate, Option, Some, None, Result, Ok, Err, slice_index_or, slice_set}
+-- The state in which a program starts: memory has its data and is 0 elsewhere, as Linux and the board give it. Of the registers only the
+-- stack pointer and the link are specified.
+use Rattle.std.specs.Prelude.{ℕ, ◌+◌, ◌/◌, ◌%◌, Bool, true, false, not, ◌&&◌, if◌then◌else◌, List, [], ◌∷◌, length, fold, replicate, Option, Some, None, Result, Ok, Err, slice_index_or, slice_set}
 use Rattle.cc_program.specs.declared.item.Object.{Object}
 use Rattle.cc_program.specs.declared.item.Reference.{Reference}
 use Rattle.cc_program.specs.declared.program.Program.{Program}
@@ -26,10 +27,6 @@ abbrev pub with_bytes : List Value → ℕ → List ℕ → List Value
 with_bytes m a [] = m
 with_bytes m a (byte ∷ bytes) = with_bytes (with_datum m a byte) (a + 1) bytes
 
--- so many bytes of a datum, which are 0 where it has none
-abbrev pub padded : List ℕ → ℕ → List ℕ
-padded bytes size = take size bytes ++ replicate (size - length bytes) 0
-
 abbrev pub or_unspecified : Result Value Why → Value
 or_unspecified (Ok v) = v
 or_unspecified (Err why) = unspecified
@@ -48,11 +45,11 @@ is_code (means.Function number) = true
 is_code (means.Place item function) = true
 is_code _ = false
 
--- a datum: its bytes, and its words that name symbols
+-- a datum: the bytes that it holds, where the others are 0, and its words that name symbols
 abbrev pub with_content : Program → ℕ → List Value → Object → List Value
 with_content p end m o =
     let start = o.standing.address in
-    fold (with_reference p end start) (with_bytes m start (padded o.content.bytes.items o.content.size)) o.content.references.items
+    fold (with_reference p end start) (with_bytes m start o.content.bytes.items) o.content.references.items
 
 -- those data are in memory that the program reaches
 abbrev pub is_laid : Program → Object → Bool
@@ -62,13 +59,13 @@ abbrev pub with_object : Program → ℕ → List Value → Object → List Valu
 with_object p end m o = if is_laid p o then with_content p end m o else m
 
 abbrev pub start_memory : Program → ℕ → List Value
-start_memory p end = fold (with_object p end) (replicate MEMORY_WORDS unspecified) p.objects.items
+start_memory p end = fold (with_object p end) (replicate MEMORY_WORDS (Number 0)) p.objects.items
 
 abbrev pub item_of : Value → ℕ → ℕ
 item_of (Code item) none = item
 item_of _ none = none
 
--- nothing is specified but the stack pointer, and where the first function returns to
+-- all are unspecified but the stack pointer, and the link to where the first function returns
 abbrev pub start_registers : ℕ → List Value
 start_registers link = slice_set (slice_set (replicate 32 unspecified) 29 (Number STACK_TOP)) 31 (Code link)
 

@@ -1,5 +1,5 @@
 //! The memory in which a program starts.
-ghost use Rattle.std.specs.Prelude.{◌≡◌, ◌<◌, ◌^◌, fold, IfOk, OnOk};
+ghost use Rattle.std.specs.Prelude.{◌≡◌, ◌<◌, ◌^◌, fold, IfOk};
 ghost use Rattle.cc_meaning.specs.Start;
 
 use crate::machine::{put_value, value_in};
@@ -13,8 +13,8 @@ use std::alloc::{AllocError, Global};
 pub const MEMORY_WORDS: usize = 65536;
 
 /// Puts a byte into memory.
-fn put_datum(memory: &mut [Value], at: usize, byte: u8)
-    ensures { memory.new ≡ Start.with_datum memory.old at byte }
+fn put_datum(memory: &mut Vec<Value>, at: usize, byte: u8)
+    ensures { memory.new.items ≡ Start.with_datum memory.old.items at byte }
 {
     let word = value_in(memory, at / 4).known_bytes();
     let bytes = with_byte(word, (at % 4) as u32, Some(byte));
@@ -22,24 +22,15 @@ fn put_datum(memory: &mut [Value], at: usize, byte: u8)
 }
 
 /// Puts bytes into memory from an address on.
-fn put_bytes(memory: &mut [Value], start: usize, bytes: &[u8])
+fn put_bytes(memory: &mut Vec<Value>, start: usize, bytes: &[u8])
     requires { start < 2 ^ 32 }
-    ensures { memory.new ≡ Start.with_bytes memory.old start bytes.now }
+    ensures { memory.new.items ≡ Start.with_bytes memory.old.items start bytes.now }
 {
     let mut at = start;
     for byte in bytes {
         put_datum(memory, at, *byte);
         at += 1;
     }
-}
-
-/// The first bytes of a datum, as many as it has, with zeros where there are fewer.
-fn padded(alloc: Global, bytes: &[u8], size: usize) -> Result<Vec<u8>, AllocError>
-    ensures { IfOk result (λ all. all.items ≡ Start.padded bytes.now size) }
-{
-    let mut all = Vec::from_slice(alloc, bytes)?;
-    all.resize(size, 0)?;
-    Ok(all)
 }
 
 /// The value of a word that names a symbol.
@@ -54,14 +45,14 @@ fn reference_value(symbol: Value, addend: u32, from: Option<u32>) -> Value
 
 /// Puts a word that names a symbol into memory.
 fn put_reference(
-    memory: &mut [Value],
+    memory: &mut Vec<Value>,
     program: &Program<'_>,
     end: u32,
     start: usize,
     one: &Reference,
 )
     requires { start < 2 ^ 32 }
-    ensures { memory.new ≡ Start.with_reference program.now end start memory.old one.now }
+    ensures { memory.new.items ≡ Start.with_reference program.now end start memory.old.items one.now }
 {
     let symbol = symbol_value(program, end, Some(one.symbol));
     let value = reference_value(symbol, one.addend, one.from);
@@ -70,14 +61,14 @@ fn put_reference(
 
 /// Puts the words of a datum that name symbols into memory.
 fn put_references(
-    memory: &mut [Value],
+    memory: &mut Vec<Value>,
     program: &Program<'_>,
     end: u32,
     start: usize,
     references: &[Reference],
 )
     requires { start < 2 ^ 32 }
-    ensures { memory.new ≡ fold (Start.with_reference program.now end start) memory.old references.now }
+    ensures { memory.new.items ≡ fold (Start.with_reference program.now end start) memory.old.items references.now }
 {
     for one in references {
         put_reference(memory, program, end, start, one);
@@ -85,20 +76,12 @@ fn put_references(
 }
 
 /// Puts a datum into memory.
-fn put_content(
-    alloc: Global,
-    memory: &mut [Value],
-    program: &Program<'_>,
-    end: u32,
-    object: &Object,
-) -> Result<(), AllocError>
-    ensures { OnOk result (memory.new ≡ Start.with_content program.now end memory.old object.now) }
+fn put_content(memory: &mut Vec<Value>, program: &Program<'_>, end: u32, object: &Object)
+    ensures { memory.new.items ≡ Start.with_content program.now end memory.old.items object.now }
 {
     let start = object.standing.address as usize;
-    let bytes = padded(alloc, &object.content.bytes, object.content.size as usize)?;
-    put_bytes(memory, start, &bytes);
+    put_bytes(memory, start, &object.content.bytes);
     put_references(memory, program, end, start, &object.content.references);
-    Ok(())
 }
 
 /// Whether a symbol is one of code.
@@ -116,36 +99,21 @@ fn is_laid(program: &Program<'_>, object: &Object) -> bool
 }
 
 /// Puts a datum into memory, if the program reaches it.
-fn put_object(
-    alloc: Global,
-    memory: &mut [Value],
-    program: &Program<'_>,
-    end: u32,
-    object: &Object,
-) -> Result<(), AllocError>
-    ensures { OnOk result (memory.new ≡ Start.with_object program.now end memory.old object.now) }
+fn put_object(memory: &mut Vec<Value>, program: &Program<'_>, end: u32, object: &Object)
+    ensures { memory.new.items ≡ Start.with_object program.now end memory.old.items object.now }
 {
     if is_laid(program, object) {
-        put_content(alloc, memory, program, end, object)
-    } else {
-        Ok(())
+        put_content(memory, program, end, object);
     }
 }
 
 /// Puts data into memory.
-fn put_objects(
-    alloc: Global,
-    memory: &mut [Value],
-    program: &Program<'_>,
-    end: u32,
-    objects: &[Object],
-) -> Result<(), AllocError>
-    ensures { OnOk result (memory.new ≡ fold (Start.with_object program.now end) memory.old objects.now) }
+fn put_objects(memory: &mut Vec<Value>, program: &Program<'_>, end: u32, objects: &[Object])
+    ensures { memory.new.items ≡ fold (Start.with_object program.now end) memory.old.items objects.now }
 {
     for object in objects {
-        put_object(alloc, memory, program, end, object)?;
+        put_object(memory, program, end, object);
     }
-    Ok(())
 }
 
 /// The memory in which a program starts.
@@ -156,7 +124,7 @@ pub(crate) fn start_memory(
 ) -> Result<Vec<Value>, AllocError>
     ensures { IfOk result (λ m. m.items ≡ Start.start_memory program.now end) }
 {
-    let mut memory = vec![in alloc; UNSPECIFIED; MEMORY_WORDS]?;
-    put_objects(alloc, memory.as_mut_slice(), program, end, program.objects.as_slice())?;
+    let mut memory = vec![in alloc; Value::Number(0); MEMORY_WORDS]?;
+    put_objects(&mut memory, program, end, program.objects.as_slice());
     Ok(memory)
 }

@@ -50,11 +50,12 @@ pub(crate) fn value_in(values: &[Value], number: usize) -> Value
 }
 
 /// Puts a value into a list, if it has so many.
-pub(crate) fn put_value(values: &mut [Value], number: usize, value: Value)
-    ensures { values.new ≡ slice_set values.old number value }
+#[tactic(auto, using(crate::proofs::Walks::set_outside))]
+pub(crate) fn put_value(values: &mut Vec<Value>, number: usize, value: Value)
+    ensures { values.new.items ≡ slice_set values.old.items number value }
 {
-    if let Some(place) = values.get_mut(number) {
-        *place = value;
+    if number < values.len() {
+        values[number] = value;
     }
 }
 
@@ -63,8 +64,8 @@ fn start_registers(alloc: Global, link: usize) -> Result<Vec<Value>, AllocError>
     ensures { IfOk result (λ r. r.items ≡ Start.start_registers link) }
 {
     let mut registers = vec![in alloc; UNSPECIFIED; 32]?;
-    put_value(registers.as_mut_slice(), 29, Value::Number(STACK_TOP));
-    put_value(registers.as_mut_slice(), 31, Value::Code(link));
+    put_value(&mut registers, 29, Value::Number(STACK_TOP));
+    put_value(&mut registers, 31, Value::Code(link));
     Ok(registers)
 }
 
@@ -145,7 +146,7 @@ impl Machine {
         ensures { state_of self.new ≡ States.with_register (state_of self.old) register value }
     {
         if register.0 != 0 {
-            put_value(self.registers.as_mut_slice(), usize::from(register.0), value);
+            put_value(&mut self.registers, usize::from(register.0), value);
         }
     }
 
@@ -171,7 +172,7 @@ impl Machine {
     fn put_word(&mut self, address: u32, value: Value)
         ensures { state_of self.new ≡ States.with_word (state_of self.old) address value }
     {
-        put_value(self.memory.as_mut_slice(), (address / 4) as usize, value);
+        put_value(&mut self.memory, (address / 4) as usize, value);
     }
 
     /// Puts the next byte of the input into a register, or all bits set where there is none left.

@@ -1,5 +1,5 @@
 //! Loads and stores of a word and of its parts.
-ghost use Rattle.std.specs.Prelude.{◌≡◌};
+ghost use Rattle.std.specs.Prelude.{◌≡◌, ◌<◌};
 ghost use Rattle.cc_meaning.specs.Memory;
 
 use crate::value::{Bytes, Value, Why, UNSPECIFIED, half_of, value_of};
@@ -186,10 +186,11 @@ fn half_value(signed: bool, upper: Option<u8>, lower: Option<u8>) -> Value
 
 /// Half a word as a word, with its sign or without.
 fn extended_half(signed: bool, half: u32) -> u32
+    requires { half < 65536 }
     ensures { result ≡ Memory.extended signed 16 half }
 {
     if signed && half >= 32768 {
-        half.wrapping_add(0xffff_0000)
+        half + 0xffff_0000
     } else {
         half
     }

@@ -6,5 +6,5 @@ use Rattle.cc_meaning.proofs.data.put_bytes.Given as goal
 abbrev pub invariant-loop-byte : goal.invariant-loop-byte
 invariant-loop-byte l = record {
   at : l.at ≡ l.start + l.byte-index;
-  rest : with_bytes l.memory l.at (drop l.byte-index l.bytes) ≡ with_bytes l.initial.memory l.start l.bytes;
+  rest : with_bytes l.memory.items l.at (drop l.byte-index l.bytes) ≡ with_bytes l.initial.memory.items l.start l.bytes;
 }
