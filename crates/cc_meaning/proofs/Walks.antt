@@ -1,7 +1,8 @@
 -- Lists with one element changed, and a run, step by step.
 use Rattle.std.proofs.Common.{◌≡◌, ◌≤◌, ℕ, suc, List, ◌++◌, option_to_list, refl, sym, ap, ◌∙◌}
-use Rattle.std.specs.Prelude.{length, slice_set}
-use Rattle.std.proofs.lemmas.List.{set_past}
+use Rattle.std.specs.Prelude.{◌+◌, ◌<◌, ◌∷◌, length, drop, slice_set, slice_index_or}
+use Rattle.std.specs.List.{fold}
+use Rattle.std.proofs.lemmas.List.{set_past, drop_more}
 use Rattle.cc_meaning.specs.declared.value.Value.{Value}
 use Rattle.cc_program.specs.declared.program.Program.{Program}
 use Rattle.cc_meaning.specs.declared.machine.Stepped.{Stepped}
@@ -15,6 +16,15 @@ use Rattle.cc_meaning.specs.Machines.{answer_of, state_after}
 -- outside a list nothing changes
 pub set_outside : (xs : List Value) (i : ℕ) (v : Value) → length xs ≤ i → xs ≡ slice_set xs i v
 set_outside xs i v h = sym (set_past xs i v h)
+
+-- a fold over what is left of a list, one element on
+pub fold_step : {X Y : Type 0} (f : Y → X → Y) (start before after : Y) (xs : List X) (i : ℕ) (x : X)
+    → i < length xs → x ≡ slice_index_or xs i x → fold f before (drop i xs) ≡ fold f start xs → after ≡ f before x
+    → fold f after (drop (i + 1) xs) ≡ fold f start xs
+fold_step f start before after xs i x within is left one =
+    ap (λ y. fold f y (drop (i + 1) xs)) one
+    ∙ sym (ap (fold f before) (drop_more xs i x within ∙ ap (λ y. y ∷ drop (i + 1) xs) (sym is)))
+    ∙ left
 
 -- a run after a step that was answered so and left a state
 abbrev pub after_answer : Stepped → State → List ℕ → (State → List ℕ → Run) → Run

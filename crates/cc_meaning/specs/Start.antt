@@ -58,8 +58,12 @@ is_laid p o = o.kept && not (is_code (meaning_of p.symbols.list.items o.symbol))
 abbrev pub with_object : Program → ℕ → List Value → Object → List Value
 with_object p end m o = if is_laid p o then with_content p end m o else m
 
+-- so many words of 0
+unfoldable pub empty_memory : ℕ → List Value
+empty_memory words = replicate words (Number 0)
+
 abbrev pub start_memory : Program → ℕ → List Value
-start_memory p end = fold (with_object p end) (replicate MEMORY_WORDS (Number 0)) p.objects.items
+start_memory p end = fold (with_object p end) (empty_memory MEMORY_WORDS) p.objects.items
 
 abbrev pub item_of : Value → ℕ → ℕ
 item_of (Code item) none = item

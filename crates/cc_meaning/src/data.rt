@@ -116,6 +116,15 @@ fn put_objects(memory: &mut Vec<Value>, program: &Program<'_>, end: u32, objects
     }
 }
 
+/// Memory of so many words of 0.
+#[tactic(auto, unfolding(crate::specs::Start::empty_memory))]
+fn empty_memory(alloc: Global, words: usize) -> Result<Vec<Value>, AllocError>
+    ensures { IfOk result (λ m. m.items ≡ Start.empty_memory words) }
+{
+    let memory = vec![in alloc; Value::Number(0); words]?;
+    Ok(memory)
+}
+
 /// The memory in which a program starts.
 pub(crate) fn start_memory(
     alloc: Global,
@@ -124,7 +133,7 @@ pub(crate) fn start_memory(
 ) -> Result<Vec<Value>, AllocError>
     ensures { IfOk result (λ m. m.items ≡ Start.start_memory program.now end) }
 {
-    let mut memory = vec![in alloc; Value::Number(0); MEMORY_WORDS]?;
+    let mut memory = empty_memory(alloc, MEMORY_WORDS)?;
     put_objects(&mut memory, program, end, program.objects.as_slice());
     Ok(memory)
 }

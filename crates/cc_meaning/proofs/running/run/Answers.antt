@@ -7,22 +7,22 @@ use Rattle.cc_meaning.proofs.running.run.Goals as goal
 
 pub loop-done-preserved : goal.loop-done-preserved
 loop-done-preserved c =
-    let n = c.args.steps - (c.loop-done.done + 1) in
+    let n = c.args.steps - (c.loop-done._done + 1) in
     let d = c.step.ensures in
     ap (λ (k : List ℕ). run_for c.args.program.now c.args.end c.args.input.now n (state_of c.step.new.machine) k) c.in_ok-push_sent.ensures
-    ∙ sym (one_more c.args.program.now c.args.end c.args.input.now n (c.args.steps - c.loop-done.done) _ _ _ (Went c.in-Went.sent) (omega arith) d.state (sym c.in-Went.is ∙ d.answer))
+    ∙ sym (one_more c.args.program.now c.args.end c.args.input.now n (c.args.steps - c.loop-done._done) _ _ _ (Went c.in-Went.sent) (omega arith) d.state (sym c.in-Went.is ∙ d.answer))
     ∙ c.loop-done.invariant
 
 pub returns-in-Halted : goal.returns-in-Halted
 returns-in-Halted c =
-    let n = c.args.steps - (c.loop-done.done + 1) in
+    let n = c.args.steps - (c.loop-done._done + 1) in
     let d = c.step.ensures in
-    sym (one_more c.args.program.now c.args.end c.args.input.now n (c.args.steps - c.loop-done.done) _ _ _ (Halted c.in-Halted.status) (omega arith) d.state (sym c.in-Halted.is ∙ d.answer))
+    sym (one_more c.args.program.now c.args.end c.args.input.now n (c.args.steps - c.loop-done._done) _ _ _ (Halted c.in-Halted.status) (omega arith) d.state (sym c.in-Halted.is ∙ d.answer))
     ∙ c.loop-done.invariant
 
 pub returns-in-Stuck : goal.returns-in-Stuck
 returns-in-Stuck c =
-    let n = c.args.steps - (c.loop-done.done + 1) in
+    let n = c.args.steps - (c.loop-done._done + 1) in
     let d = c.step.ensures in
-    sym (one_more c.args.program.now c.args.end c.args.input.now n (c.args.steps - c.loop-done.done) _ _ _ (Stuck c.in-Stuck.why) (omega arith) d.state (sym c.in-Stuck.is ∙ d.answer))
+    sym (one_more c.args.program.now c.args.end c.args.input.now n (c.args.steps - c.loop-done._done) _ _ _ (Stuck c.in-Stuck.why) (omega arith) d.state (sym c.in-Stuck.is ∙ d.answer))
     ∙ c.loop-done.invariant
