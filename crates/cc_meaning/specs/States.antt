@@ -11,12 +11,12 @@ use Rattle.cc_meaning.specs.declared.effect.Effect.TheVariants.{Follows, Puts, P
 use Rattle.cc_meaning.specs.Values.{unspecified}
 
 pub record State : Type 0 where
-  pub next : ℕ               -- the number of the item that comes next
-  pub registers : List Value -- 32, of which register 0 is not read
-  pub low : Value            -- LO
-  pub high : Value           -- HI
-  pub memory : List Value    -- a word each, from byte 0 on
-  pub taken : ℕ              -- how many bytes of the input were taken
+  pub next : ℕ  -- the number of the item that comes next
+  pub registers : List Value  -- 32, of which register 0 is not read
+  pub low : Value  -- LO
+  pub high : Value  -- HI
+  pub memory : List Value  -- a word each, from byte 0 on
+  pub taken : ℕ  -- how many bytes of the input were taken
 
 -- what a step does: it leaves a state, and may send a byte; or the program ends with a status, or cannot go on
 pub data Outcome : Type 0 where

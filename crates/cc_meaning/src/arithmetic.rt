@@ -175,7 +175,9 @@ fn quotient(signed: bool, a: u32, b: u32) -> u32
     ensures { result ≡ Arithmetic.quotient signed a b }
 {
     if signed {
-        a.cast_signed().wrapping_div(b.cast_signed()).cast_unsigned()
+        a.cast_signed()
+            .wrapping_div(b.cast_signed())
+            .cast_unsigned()
     } else {
         a / b
     }
@@ -187,7 +189,9 @@ fn remainder(signed: bool, a: u32, b: u32) -> u32
     ensures { result ≡ Arithmetic.remainder signed a b }
 {
     if signed {
-        a.cast_signed().wrapping_rem(b.cast_signed()).cast_unsigned()
+        a.cast_signed()
+            .wrapping_rem(b.cast_signed())
+            .cast_unsigned()
     } else {
         a % b
     }
@@ -197,7 +201,10 @@ fn remainder(signed: bool, a: u32, b: u32) -> u32
 fn halves(product: u64) -> (u32, u32)
     ensures { result ≡ Arithmetic.halves product }
 {
-    ((product % 4_294_967_296) as u32, (product / 4_294_967_296) as u32)
+    (
+        (product % 4_294_967_296) as u32,
+        (product / 4_294_967_296) as u32,
+    )
 }
 
 /// LO and HI after a product or a quotient.

@@ -267,7 +267,10 @@ impl Machine {
     {
         match *instruction {
             Instruction::Compute { op, rd, rs, second } => {
-                puts(rd, computed(op, self.register(rs), self.source_value(second)))
+                puts(
+                    rd,
+                    computed(op, self.register(rs), self.source_value(second)),
+                )
             }
             Instruction::Shift { op, rd, rs, by } => {
                 puts(rd, shifted(op, self.register(rs), self.source_value(by)))

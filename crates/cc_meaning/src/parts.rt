@@ -2,7 +2,7 @@
 ghost use Rattle.std.specs.Prelude.{◌≡◌, ◌<◌};
 ghost use Rattle.cc_meaning.specs.Memory;
 
-use crate::value::{Bytes, Value, Why, UNSPECIFIED, half_of, value_of};
+use crate::value::{Bytes, UNSPECIFIED, Value, Why, half_of, value_of};
 use cc_lines::Width;
 
 /// The byte with a number, from 0 at the most significant one to 3.
