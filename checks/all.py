@@ -98,6 +98,7 @@ CHECKS = (
     # C programs, the libraries
     Check("stored C programs", ("cc_cases.py",), ("mx_run", "mx_cc"), 15, tools=MIPS),
     Check("C programs", ("cc.sh", "0"), ("mx_run", "mx_cc"), 15, tools=MIPS, full=("cc.sh",)),
+    Check("compiled assembly", ("meaning.py", "20"), ("mx_cc",), 15, tools=MIPS, full=("meaning.py",)),
     Check("C commands", ("cc_uses.sh",), ("mx_run", "mx_cc"), 15, tools=MIPS),
     Check("study", ("study.py", "--compare", "callbacks", "jumps", "lz", "mandel", "pi"), ("mx_run", "mx_lab", "mx_cc"), full=("study.py", "--compare", "all")),
     Check("models", ("models.py",), ("mx_run", "mx_lab")),

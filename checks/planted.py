@@ -284,6 +284,11 @@ CASES = (
     Case("C commands", "cc_uses.sh", "an output that is an input", """
         plant tools/cc.sh '/: this file is read" 2$/s/.*/:/'; checks/cc_uses.sh""", ("FAILED: cc good.c -o good.c",)),
     Case("C programs", "cc.sh", "another console", """fake "$MX_RUN" 's/^92 ways/93 ways/'; MX_RUN=$fake checks/cc.sh 0 queens""", ("FAILED: queens",)),
+    Case("compiled assembly", "meaning.py", "another console", """
+        printf '#!/bin/sh\\n"%s" "$@" | sed "s/^92 ways/93 ways/"\\n' "$MX_CC" >"$work/fake" && chmod +x "$work/fake"
+        MX_CC=$work/fake checks/meaning.py 0 queens""", ("FAILED: queens",)),
+    Case("compiled assembly", "meaning.py", "a wrong row", """
+        plant checks/cc/worked.txt 's/fffffffe$/ffffffff/'; checks/meaning.py 0""", ("FAILED: li",)),
     Case("C programs", "cc.sh", "a run that does not end", """
         fake "$MX_RUN" '1s/^halted$/out of budget/'; MX_RUN=$fake checks/cc.sh 0 queens""", ("FAILED: queens",)),
     Case("library", "embed.sh", "a stack that is too small", """

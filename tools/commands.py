@@ -50,7 +50,8 @@ COMMANDS = {
                    "Ends with 0 where the run halted, 3 where it is out of budget, 1 where the source is refused."),
     "meaning": Command("mx_run", "SOURCE", "executes a source one statement after the other", (
         Option("--steps", "N", "0 to 100,000,064 statements (1,000,000)"), INPUT, OUTPUT),
-        "Ends with 0 at a halt, 3 where it still runs, 9 where it is stuck."),
+        "Ends with 0 at a halt, 3 where it still runs, 9 where it is stuck.\n"
+        "--compiled FILE.s .. first executes a compiler's assembly for MIPS-I (docs/C.md)."),
     "list": Command("mx_run", "SOURCE", "lists the linked words, and where each comes from", (OUTPUT,)),
     "build": Command("mx_run", "SOURCE IMAGE", "writes the linked program as a file", (LINKED_PLANS,)),
     "exec": Command("mx_run", "IMAGE", "runs such a file", RUN),

@@ -1,0 +1,9 @@
+pub mod Values
+pub mod Memory
+pub mod Arithmetic
+pub mod States
+pub mod Instructions
+pub mod Start
+pub mod Steps
+pub mod Runs
+pub mod Machines
