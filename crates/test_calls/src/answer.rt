@@ -1,9 +1,9 @@
 //! Files read, printed and written.
+use crate::same::same;
 use cmd_answer::{FileKind, Reply, Status, finish, read_file, replied};
 use mx_io::{MemoryShelf, MemorySink, Shelf};
 use std::alloc::Global;
 use std::test::Fail;
-use test_case_files::same;
 
 /// Reads a file and writes it to another name, or prints why it is not read.
 fn copied(

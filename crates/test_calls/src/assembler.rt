@@ -1,10 +1,10 @@
 //! What texts assemble to, and their faults.
+use crate::same::{same, same_for};
 use mx_asm::{assemble, assemble_at};
 use mx_lines::{AsmError, Fault};
 use mx_source::{Source, Value};
 use std::alloc::{AllocError, Global};
 use std::test::Fail;
-use test_case_files::{same, same_for};
 
 const TEXT: &[u8] =
     b"next: ld 254[r0],r1 ; takes a byte\n.input\nla next,r2\nb next\n.data\nw: .word next,-1\n";

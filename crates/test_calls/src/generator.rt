@@ -1,10 +1,10 @@
 //! Generated sources.
 ghost use Rattle.std.specs.Prelude.{◌≤◌};
 
+use crate::same::same;
 use mx_gen::generate;
 use std::alloc::Global;
 use std::test::Fail;
-use test_case_files::same;
 
 /// The text of so many items from a seed.
 fn printed(alloc: Global, seed: u32, count: u32) -> Result<Vec<u8>, Fail>

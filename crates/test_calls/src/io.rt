@@ -1,4 +1,5 @@
 //! The objects in memory, and the edge to the system.
+use crate::same::same;
 use mx_io::{
     MemoryShelf, MemorySink, RealShelf, RealSink, Shelf, ShelfFault, Sink, SinkFault, SliceSink,
     put_all,
@@ -6,7 +7,6 @@ use mx_io::{
 use std::alloc::Global;
 use std::fs;
 use std::test::Fail;
-use test_case_files::same;
 
 /// Whether a shelf answers so, when a name is read up to that many bytes.
 fn answers<S: Shelf>(

@@ -1,6 +1,6 @@
 //! The tokens of a line.
+use crate::same::{same, same_for};
 use mx_lex::{Kind, LexFault, Lexer, Token};
-use test_case_files::{same, same_for};
 
 /// The token of a line with this number, from 0 on.
 fn token(line: &[u8], number: usize) -> Result<Token, LexFault> {

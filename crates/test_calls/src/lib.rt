@@ -22,6 +22,7 @@ mod names;
 #[cfg(test)]
 mod print;
 #[cfg(test)]
+mod same;
 #[cfg(test)]
 mod soak;
 #[cfg(test)]

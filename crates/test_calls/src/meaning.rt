@@ -1,4 +1,5 @@
 //! The sequential meaning, step by step and as it is told.
+use crate::same::{same, same_for};
 use cmd_answer::{Reply, Status};
 use cmd_meaning::meaning_reply;
 use mx_asm::assemble;
@@ -7,7 +8,6 @@ use mx_seq::{Seq, Stepped};
 use mx_source::Value;
 use std::alloc::Global;
 use std::test::Fail;
-use test_case_files::{same, same_for};
 
 /// Sends the first byte of its input.
 const SENDS_ONE: &[u8] = b".input\nld 254[r0],r1\nst 255[r0],r1\nhalt\n.data\n.word 7\n";

@@ -1,8 +1,8 @@
 //! Texts that import and export labels, joined to one source.
+use crate::same::same;
 use mx_module::Joiner;
 use std::alloc::Global;
 use std::test::Fail;
-use test_case_files::same;
 
 const FIRST: &[u8] = b".import emit\naddi r0,#72,r1\ncall emit,r31\nhalt";
 

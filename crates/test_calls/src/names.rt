@@ -1,8 +1,8 @@
 //! Names that instructions read and write.
+use crate::same::same;
 use mx_depend::independent;
 use mx_isa::{Inst, Op, Place, Reg};
 use std::test::Fail;
-use test_case_files::same;
 
 fn load(base: Reg, dest: Reg, offset: i32) -> Inst {
     Inst::Load { base, dest, offset }

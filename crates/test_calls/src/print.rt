@@ -1,10 +1,10 @@
 //! Canonical text.
+use crate::same::same;
 use indexmap::IndexMap;
 use mx_isa::{Inst, Op, Reg};
 use mx_source::{Label, Name, Source, Statement, Value};
 use std::alloc::Global;
 use std::test::Fail;
-use test_case_files::same;
 
 /// A source with input of two statements, a word and its label.
 fn source_of(alloc: Global) -> Result<Source, Fail> {

@@ -1,7 +1,7 @@
 //! The run of a generated source under interrupts.
+use crate::same::same;
 use cmd_soak::soak;
 use std::test::Fail;
-use test_case_files::same;
 
 static REPORT: &[u8] = b"\
 steps 10\n\

@@ -1,8 +1,8 @@
 //! Words of a command with two options and one name, and numbers.
+use crate::same::same_for;
 use cmd_line::{Read, Shape, number_within, read_words};
 use std::alloc::{AllocError, Global};
 use std::test::Fail;
-use test_case_files::same_for;
 
 const RUN: Shape<'static> = Shape {
     options: &["budget", "trace"],

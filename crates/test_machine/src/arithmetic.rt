@@ -1,6 +1,6 @@
 //! What compute instructions and conditions give.
+use crate::same::same;
 use mx_isa::{Cond, Op, compute, holds};
-use test_case_files::same;
 
 #[test]
 fn computes(rt: HostRuntime) {

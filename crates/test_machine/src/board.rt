@@ -1,7 +1,7 @@
 //! The data memory.
+use crate::same::same;
 use mx_board::Board;
 use mx_io::Memory;
-use test_case_files::same;
 
 /// What is done with a memory, and what it gives.
 #[derive(Clone, Copy)]

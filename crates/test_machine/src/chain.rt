@@ -1,9 +1,9 @@
 //! The chain of saved fetches and the modes.
 ghost use Rattle.std.specs.Prelude.{◌<◌, ◌^◌};
 
+use crate::same::same;
 use mx_isa::Special;
 use mx_pcchain::{Chain, Fetched, Mode, Psw};
-use test_case_files::same;
 
 fn fetched(address: u32, squashed: bool) -> Fetched
     requires { address < 2 ^ 31 }

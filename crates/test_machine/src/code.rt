@@ -1,11 +1,11 @@
 //! Words of instructions, and images.
+use crate::same::same;
 use mx_code::{Image, decode, encode};
 use mx_isa::{Cond, Inst, Op, Reg};
 use mx_turn::SHIPPED;
 use std::alloc::Global;
 use std::process::Abort;
 use std::test::Fail;
-use test_case_files::same;
 
 /// The word of the instruction that a word spells, where it fits.
 fn respelled(word: u32) -> Option<u32> {

@@ -1,6 +1,6 @@
 //! The caches on given and on drawn fetches.
+use crate::same::same;
 use mx_icache::{FetchCache, LineCache, PlainCache, Set};
-use test_case_files::same;
 
 /// Nine lines of one set, and then words of them again, of which only the third line and its neighbour are held.
 static FETCHES: [(u32, bool); 15] = [

@@ -1,8 +1,8 @@
 //! Image files of both versions.
+use crate::same::same;
 use mx_image::{ImageError, read_file, read_image, write_file, write_image};
 use std::alloc::{AllocError, Global};
 use std::test::Fail;
-use test_case_files::same;
 
 // An image of three words and no data, in version 1.
 static HELLO: [u8; 28] = [

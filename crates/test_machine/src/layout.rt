@@ -1,5 +1,6 @@
 //! The layout, by plans that are kept and by plans that are longer than they may be.
 use crate::programs::COUNTS_DOWN;
+use crate::same::same;
 use arrayvec::ArrayVec;
 use mx_asm::assemble;
 use mx_blocks::{Block, Item, Plan};
@@ -8,7 +9,6 @@ use mx_layout::{Layout, lay_out};
 use mx_validate::Proposer;
 use std::alloc::Global;
 use std::test::Fail;
-use test_case_files::same;
 
 /// Proposes these items and the terminator behind two of them, whatever the block is.
 #[derive(Clone, Copy)]

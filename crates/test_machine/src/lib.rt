@@ -26,6 +26,7 @@ mod programs;
 #[cfg(test)]
 mod requests;
 #[cfg(test)]
+mod same;
 #[cfg(test)]
 mod traces;
 #[cfg(test)]

@@ -1,5 +1,6 @@
 //! The images of small programs.
 use crate::programs::{COUNTDOWN, COUNTS_DOWN};
+use crate::same::same;
 use crate::turns::console_of;
 use arrayvec::ArrayVec;
 use mx_asm::assemble;
@@ -10,7 +11,6 @@ use mx_reorg::ListProposer;
 use mx_validate::Proposer;
 use std::alloc::Global;
 use std::test::Fail;
-use test_case_files::same;
 
 const LOADS: &[u8] = b"ld 256[r0],r1\naddi r1,#1,r1\nhalt\n.data\n.word 41\n";
 

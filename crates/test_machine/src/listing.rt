@@ -1,5 +1,6 @@
 //! The listing of a linked source.
 use crate::programs::COUNTS_DOWN;
+use crate::same::same;
 use cmd_list::listing;
 use mx_asm::assemble;
 use mx_isa::BOARD;
@@ -7,7 +8,6 @@ use mx_link::link;
 use mx_reorg::ListProposer;
 use std::alloc::Global;
 use std::test::Fail;
-use test_case_files::same;
 
 static LISTING: &[u8] = b"\
 00000000 88020001 h\n\

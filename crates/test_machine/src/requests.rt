@@ -1,9 +1,9 @@
 //! Files of interrupt cycles, up to as many as there may be, and one more.
+use crate::same::{same, same_for};
 use mx_board::{EventError, Requests};
 use mx_io::Memory;
 use std::alloc::Global;
 use std::test::Fail;
-use test_case_files::{same, same_for};
 
 /// The most bytes of a file of interrupt cycles.
 const MOST: usize = 1_048_576;

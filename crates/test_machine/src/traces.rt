@@ -1,10 +1,10 @@
 //! The lines of a trace, by the worked run of `docs/MACHINE.md`.
+use crate::same::same_for;
 use crate::turns::SEVENTH;
 use mx_report::trace_line;
 use mx_turn::{Cycled, Latches, Stage};
 use std::alloc::Global;
 use std::test::Fail;
-use test_case_files::same_for;
 
 /// The line of a cycle that sends nothing and takes no interrupt, before the halt.
 fn line(alloc: Global, cycle: u32, stalled: bool, rf: Stage) -> Result<Vec<u8>, Fail> {

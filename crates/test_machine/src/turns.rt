@@ -1,12 +1,12 @@
 //! Worked runs, on images by hand.
 use crate::programs::COUNTDOWN;
+use crate::same::{same, same_for};
 use mx_code::Image;
 use mx_icache::LineCache;
 use mx_isa::Reg;
 use mx_turn::{Counts, Latches, Machine, Stage, Turns};
 use std::alloc::{AllocError, Global};
 use std::test::Fail;
-use test_case_files::{same, same_for};
 
 /// `addi r0,#72,r1 / st 255[r0],r1 / halt`
 const HELLO: &[u32] = &[0xc002_0048, 0x8802_00ff, 0xe000_0000];
