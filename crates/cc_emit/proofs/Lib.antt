@@ -1,2 +1,4 @@
+pub mod Adding
 pub mod Images
 pub mod More
+pub mod Overlay

@@ -40,3 +40,9 @@ item_more f xs i d before now after h e more =
 pub whole_text : (code more size b c e text : List ℕ) → b ≡ code → c ≡ b ++ more → e ≡ c ++ size → text ≡ e
     → (rest : List ℕ) × (text ≡ code ++ rest)
 whole_text code more size b c e text h k i j = (more ++ size, j ∙ (two_more b more size c e k i ∙ ap (λ t. t ++ (more ++ size)) h))
+
+-- the data: their beginning, the image, and the words that the translation adds
+pub whole_data : (front words image added a b c d : List ℕ) → b ≡ a ++ front → c ≡ b ++ words → words ≡ image → d ≡ c ++ added
+    → d ≡ a ++ (front ++ image ++ added)
+whole_data front words image added a b c d h k e i =
+    two_more a (front ++ image) added c d (two_more a front image b c h (k ∙ ap (λ t. b ++ t) e)) i

@@ -1,3 +1,4 @@
+pub mod Assembly
 pub mod Data
 pub mod Images
 pub mod Labels

@@ -1,13 +1,12 @@
 -- The text of a source.
-use Rattle.std.specs.Prelude.{ℕ, ◌≡◌, cond, ◌==◌, List, [], ◌++◌, codes, decimal}
+use Rattle.std.specs.Prelude.{ℕ, cond, ◌==◌, List, [], ◌++◌, codes, decimal}
 use Rattle.cc_program.specs.declared.program.Program.{Program}
 use Rattle.cc_emit.specs.declared.line.Line.{Line}
 use Rattle.cc_emit.specs.declared.output.Output.{Output}
-use Rattle.cc_emit.specs.declared.words.Said.{Said}
 use Rattle.cc_emit.specs.declared.words.Writing.TheVariants.{Nothing}
 use Rattle.cc_emit.specs.Lines.{lines_text}
 use Rattle.cc_emit.specs.Data.{front_text, added_text}
-use Rattle.cc_emit.specs.Images.{image_text}
+use Rattle.cc_emit.specs.Images.{DataImage, image_of, image_text}
 
 -- the comment that a source begins with
 abbrev pub title : List ℕ
@@ -30,7 +29,9 @@ size_text statements instructions words =
     count_text (codes "; ") statements (codes " statement") ++ count_text (codes ", ") instructions (codes " instruction")
     ++ count_text (codes ", ") words (codes " data word") ++ codes "\n"
 
--- a text goes on with the data: words with their labels, and those that the translation adds
-abbrev pub IsData : Program → Output → ℕ → List ℕ → List ℕ → Type 0
-IsData p out end before after = (bytes : List ℕ) × (said : List Said)
-    × (after ≡ before ++ (front_text out.input ++ image_text p bytes Nothing said ++ added_text out end))
+-- the data: those of the program before the byte `behind`, and those of the translation before the byte `end`
+abbrev pub words_text : Program → DataImage → List ℕ
+words_text p image = image_text p image.bytes Nothing image.said
+
+abbrev pub data_text : Program → Output → ℕ → ℕ → List ℕ
+data_text p out behind end = front_text out.input ++ words_text p (image_of p behind end) ++ added_text out end

@@ -4,7 +4,7 @@
 //! change these, MD and r22 alone. Each line of a routine follows the number of times
 //! that it is written.
 
-ghost use Rattle.std.specs.Prelude.{◌≡◌, ◌≤◌, ◌++◌, replicate, OnOk};
+ghost use Rattle.std.specs.Prelude.{◌≡◌, ◌≤◌, ◌++◌, replicate, option_map, OnOk};
 ghost use Rattle.std.specs.List.{flat_map};
 ghost use Rattle.cc_emit.specs.Routines;
 
@@ -356,7 +356,10 @@ const STACK: &[(u32, &str)] = &[
 ];
 
 /// The lines of a routine that is no shift.
-fn rows_of(which: Routine) -> Option<&'static [(u32, &'static str)]> {
+#[tactic(auto, unfolding(crate::specs::Routines::assembly_of))]
+fn rows_of(which: Routine) -> Option<&'static [(u32, &'static str)]>
+    ensures { option_map (λ rows. Routines.rows_seen rows.now) result ≡ Routines.assembly_of which }
+{
     match which {
         Routine::Low => Some(LOW),
         Routine::Product => Some(PRODUCT),
@@ -373,7 +376,8 @@ fn rows_of(which: Routine) -> Option<&'static [(u32, &'static str)]> {
 
 /// Adds a routine.
 fn put_routine(out: &mut Output, which: Routine) -> Result<(), AllocError>
-    ensures { out.new.routines ≡ out.old.routines }
+    ensures lines { OnOk result (Routines.Adds out.old.lines.items out.new.lines.items (λ p. Routines.routine_text p which)) }
+    ensures routines { out.new.routines ≡ out.old.routines }
 {
     match rows_of(which) {
         Some(rows) => put_rows(out, rows),
@@ -383,18 +387,19 @@ fn put_routine(out: &mut Output, which: Routine) -> Result<(), AllocError>
 
 /// Adds a routine, if it is called.
 fn put_if_called(out: &mut Output, which: Routine) -> Result<(), AllocError>
-    ensures { out.new.routines ≡ out.old.routines }
+    ensures lines { OnOk result (Routines.Adds out.old.lines.items out.new.lines.items (λ p. Routines.called_text out.old.routines.items p which)) }
+    ensures routines { out.new.routines ≡ out.old.routines }
 {
-    if out.needs(which) {
-        put_routine(out, which)
-    } else {
-        Ok(())
+    if !out.needs(which) {
+        return Ok(());
     }
+    put_routine(out, which)
 }
 
 /// Adds those of these routines that are called.
 fn put_called(out: &mut Output, routines: &[Routine]) -> Result<(), AllocError>
-    ensures { out.new.routines ≡ out.old.routines }
+    ensures lines { OnOk result (Routines.Adds out.old.lines.items out.new.lines.items (Routines.called_texts out.old.routines.items routines.now)) }
+    ensures routines { out.new.routines ≡ out.old.routines }
 {
     for which in routines {
         put_if_called(out, *which)?;
@@ -426,7 +431,8 @@ fn need_called(out: &mut Output) -> Result<(), AllocError>
 
 /// Adds the routines that are called, and those that these call.
 pub fn put_routines(out: &mut Output) -> Result<(), AllocError>
-    ensures { OnOk result (out.new.routines.items ≡ Routines.all_needed out.old.routines.items) }
+    ensures lines { OnOk result (Routines.Adds out.old.lines.items out.new.lines.items (Routines.routines_text (Routines.all_needed out.old.routines.items))) }
+    ensures routines { OnOk result (out.new.routines.items ≡ Routines.all_needed out.old.routines.items) }
 {
     need_called(out)?;
     put_called(out, &ROUTINES)

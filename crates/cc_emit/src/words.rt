@@ -1,27 +1,26 @@
 //! The data of the translation.
-ghost use Rattle.std.specs.Prelude.{◌≡◌, ◌≤◌, ◌<◌, ◌++◌, drop, decimal, slice_get, ℕ, Some, IfOk, OnOk};
-ghost use Rattle.std.specs.List.{flat_map};
-ghost use Rattle.cc_rules.specs.Numbers.{kept_number};
+ghost use Rattle.std.specs.Prelude.{◌≡◌, ◌≤◌, ◌<◌, ◌^◌, ◌++◌, drop, set, decimal, slice_get, ℕ, Some, IfOk, OnOk};
+ghost use Rattle.std.specs.List.{flat_map, fold};
 ghost use Rattle.cc_emit.specs.declared.words.Writing.TheVariants.{Nothing};
 ghost use Rattle.cc_emit.specs.Data;
 ghost use Rattle.cc_emit.specs.Images;
-ghost use Rattle.cc_emit.specs.Sources.{IsData};
+ghost use Rattle.cc_emit.specs.Sources;
 
 use crate::line::{MASKS, Mask, Routine, Target, Word};
 use crate::output::Output;
 use crate::text::Text;
 use cc_lines::Shift;
 use cc_program::{Meaning, Object, Program, Reference, Symbols};
-use cc_rules::{LIMIT, kept_number, place_in, spelled_len, words_with};
+use cc_rules::{LIMIT, place_in, spelled_len, words_with};
 use std::alloc::{AllocError, Global};
 
 /// What is said of a word of data besides its bytes.
 #[derive(Clone, Copy)]
 struct Said {
-    /// 1 more than the number of the symbol that it is the place of, or 0.
-    place: u32,
-    /// 1 more than the number of the datum that begins there, or 0.
-    begins: u32,
+    /// The symbol that it is the place of, if it is one.
+    place: Option<u32>,
+    /// The number of the datum that begins there, if one does.
+    begins: Option<usize>,
 }
 
 /// The words of all data: their bytes, and what is said of each.
@@ -31,67 +30,106 @@ struct Image {
     said: Vec<Said>,
 }
 
-/// Writes a byte of the image.
-fn write_byte(image: &mut Image, at: usize, byte: u8) {
-    if let Some(place) = image.bytes.as_mut_slice().get_mut(at) {
-        *place = byte;
+/// Writes a byte, if there is one at the place.
+fn write_byte(bytes: &mut [u8], at: usize, byte: u8)
+    ensures { bytes.new ≡ set bytes.old at byte }
+{
+    if at < bytes.len() {
+        bytes[at] = byte;
     }
 }
 
-/// Writes a datum's bytes.
-fn write_bytes(image: &mut Image, object: &Object) {
-    let start = place_in(object.standing.address);
-    for (i, byte) in object.content.bytes.iter().enumerate() {
-        write_byte(image, start.saturating_add(i), *byte);
+/// Writes bytes over others from a place on, without those past the end.
+fn write_bytes(bytes: &mut [u8], at: usize, new: &[u8])
+    requires { at ≤ 2 ^ 33 }
+    ensures { bytes.new ≡ Images.overlay at new.now bytes.old }
+{
+    for i in 0..new.len() {
+        write_byte(bytes, at + i, new[i]);
     }
 }
 
-/// Writes a word of the image.
-fn write_word(image: &mut Image, at: usize, word: u32) {
-    for (i, byte) in word.to_be_bytes().iter().enumerate() {
-        write_byte(image, at.saturating_add(i), *byte);
+/// Lets a word be the place of a symbol.
+fn write_place(said: &mut [Said], word: usize, symbol: u32)
+    ensures { said.new ≡ Images.with_place word symbol said.old }
+{
+    if word < said.len() {
+        let begins = said[word].begins;
+        let place = Some(symbol);
+        said[word] = Said { place, begins };
     }
 }
 
-/// Lets a word of the image be the place of a symbol.
-fn write_place(image: &mut Image, at: usize, symbol: u32) {
-    if let Some(said) = image.said.as_mut_slice().get_mut(at / 4) {
-        said.place = symbol.saturating_add(1);
+/// Lets the datum with this number begin at a word.
+fn write_begin(said: &mut [Said], word: usize, number: usize)
+    ensures { said.new ≡ Images.with_begin word number said.old }
+{
+    if word < said.len() {
+        let place = said[word].place;
+        let begins = Some(number);
+        said[word] = Said { place, begins };
     }
 }
 
-/// Lets the datum with this number begin at a word of the image.
-fn write_begin(image: &mut Image, at: usize, number: u32) {
-    if let Some(said) = image.said.as_mut_slice().get_mut(at / 4) {
-        said.begins = number.saturating_add(1);
+/// What a reference to a symbol that is an address, or nothing, is less.
+fn from_address(program: &Program, from: Option<u32>) -> u32
+    ensures { result ≡ Images.from_address program.now from }
+{
+    match from {
+        Some(from) => program.address(from),
+        None => 0,
+    }
+}
+
+/// The word that a reference is, where all data end here.
+fn reference_word(program: &Program, one: Reference, end: u32) -> u32
+    ensures { result ≡ Images.reference_word program.now end one }
+{
+    match program.symbols.meaning(one.symbol) {
+        Meaning::End => end.wrapping_add(one.addend),
+        _ => program
+            .address(one.symbol)
+            .wrapping_add(one.addend)
+            .wrapping_sub(from_address(program, one.from)),
+    }
+}
+
+/// Whether a reference is the place of a label in a function, which no word holds.
+fn is_label(program: &Program, symbol: u32) -> bool
+    ensures { result ≡ Images.is_label program.now symbol }
+{
+    match program.symbols.meaning(symbol) {
+        Meaning::Place { .. } => program.address(symbol) == 0,
+        _ => false,
     }
 }
 
 /// Writes a word of a datum that is a symbol.
-fn write_reference(image: &mut Image, program: &Program, one: Reference, start: usize, end: u32) {
-    let at = start.saturating_add(one.at as usize);
-    let address = program.address(one.symbol);
-    match program.symbols.meaning(one.symbol) {
-        Meaning::Place { .. } if address == 0 => write_place(image, at, one.symbol),
-        Meaning::End => write_word(image, at, end.wrapping_add(one.addend)),
-        _ => {
-            let from = match one.from {
-                Some(from) => program.address(from),
-                None => 0,
-            };
-            write_word(
-                image,
-                at,
-                address.wrapping_add(one.addend).wrapping_sub(from),
-            );
-        }
+fn write_reference(image: &mut Image, program: &Program, one: Reference, start: usize, end: u32)
+    requires { start ≤ 2 ^ 32 }
+    ensures { Images.seen image.new ≡ Images.with_reference program.now end start (Images.seen image.old) one }
+{
+    let at = start + one.at as usize;
+    if is_label(program, one.symbol) {
+        write_place(image.said.as_mut_slice(), at / 4, one.symbol);
+    } else {
+        let word = reference_word(program, one, end);
+        write_bytes(image.bytes.as_mut_slice(), at, &word.to_be_bytes());
     }
 }
 
-/// Writes the words of a datum that are symbols.
-fn write_references(image: &mut Image, program: &Program, object: &Object, end: u32) {
-    let start = place_in(object.standing.address);
-    for one in &object.content.references {
+/// Writes words of a datum that are symbols.
+fn write_references(
+    image: &mut Image,
+    program: &Program,
+    references: &[Reference],
+    start: usize,
+    end: u32,
+)
+    requires { start ≤ 2 ^ 32 }
+    ensures { Images.seen image.new ≡ fold (Images.with_reference program.now end start) (Images.seen image.old) references.now }
+{
+    for one in references {
         write_reference(image, program, *one, start, end);
     }
 }
@@ -106,25 +144,46 @@ fn is_descriptor(program: &Program, object: &Object) -> bool
     )
 }
 
-/// Writes a datum.
-fn write_object(image: &mut Image, program: &Program, number: u32, object: &Object, end: u32) {
+/// Writes the content of a datum: the place that it holds, or its bytes and the words of it that are symbols.
+fn write_content(image: &mut Image, program: &Program, object: &Object, end: u32)
+    ensures { Images.seen image.new ≡ Images.with_content program.now end object.now (Images.seen image.old) }
+{
     let start = place_in(object.standing.address);
-    if object.standing.address % 4 == 0 {
-        write_begin(image, start, number);
-    }
     if is_descriptor(program, object) {
-        write_place(image, start, object.symbol);
+        write_place(image.said.as_mut_slice(), start / 4, object.symbol);
     } else {
-        write_bytes(image, object);
-        write_references(image, program, object, end);
+        write_bytes(image.bytes.as_mut_slice(), start, &object.content.bytes);
+        write_references(image, program, &object.content.references, start, end);
+    }
+}
+
+/// Lets a datum begin, if a word begins at its address.
+fn write_front(image: &mut Image, number: usize, object: &Object)
+    ensures { Images.seen image.new ≡ Images.with_front number object.now (Images.seen image.old) }
+{
+    if object.standing.address % 4 == 0 {
+        let word = place_in(object.standing.address) / 4;
+        write_begin(image.said.as_mut_slice(), word, number);
+    }
+}
+
+/// Writes a datum, if it is kept.
+fn write_object(image: &mut Image, program: &Program, number: usize, object: &Object, end: u32)
+    ensures { Images.seen image.new ≡ Images.with_object program.now end number object.now (Images.seen image.old) }
+{
+    if object.kept {
+        write_front(image, number, object);
+        write_content(image, program, object, end);
     }
 }
 
 /// An image of words of 0 that are nothing else.
-fn empty_image(alloc: Global, bytes: usize) -> Result<Image, AllocError> {
+fn empty_image(alloc: Global, bytes: usize) -> Result<Image, AllocError>
+    ensures { IfOk result (λ image. Images.seen image ≡ Images.empty_image bytes) }
+{
     let nothing = Said {
-        place: 0,
-        begins: 0,
+        place: None,
+        begins: None,
     };
     let said = vec![in alloc; nothing; bytes / 4]?;
     Ok(Image {
@@ -133,21 +192,21 @@ fn empty_image(alloc: Global, bytes: usize) -> Result<Image, AllocError> {
     })
 }
 
-/// Writes all data that are kept.
-fn write_objects(image: &mut Image, program: &Program, end: u32) {
-    let mut number = 0u32;
-    for object in &program.objects {
-        if object.kept {
-            write_object(image, program, number, object, end);
-        }
-        number = number.saturating_add(1);
+/// Writes data that are kept, one after the other.
+fn write_objects(image: &mut Image, program: &Program, objects: &[Object], end: u32)
+    ensures { Images.seen image.new ≡ Images.with_objects program.now end 0 objects.now (Images.seen image.old) }
+{
+    for i in 0..objects.len() {
+        write_object(image, program, i, &objects[i], end);
     }
 }
 
 /// The image of all data, where `behind` is the first byte after them and `end` the one after what follows too.
-fn image_of(alloc: Global, program: &Program, behind: u32, end: u32) -> Result<Image, AllocError> {
+fn image_of(alloc: Global, program: &Program, behind: u32, end: u32) -> Result<Image, AllocError>
+    ensures { IfOk result (λ image. Images.seen image ≡ Images.image_of program.now behind end) }
+{
     let mut image = empty_image(alloc, place_in(behind))?;
-    write_objects(&mut image, program, end);
+    write_objects(&mut image, program, &program.objects, end);
     Ok(image)
 }
 
@@ -269,10 +328,10 @@ fn put_object_label(text: &mut Text, program: &Program, object: &Object) -> Resu
 }
 
 /// The label of the datum with a number.
-fn put_label(text: &mut Text, program: &Program, number: u32) -> Result<(), AllocError>
+fn put_label(text: &mut Text, program: &Program, number: usize) -> Result<(), AllocError>
     ensures { OnOk result (text.new ≡ text.old ++ Images.datum_label program.now number) }
 {
-    match program.objects.get(number as usize) {
+    match program.objects.get(number) {
         Some(object) => put_object_label(text, program, object),
         None => Ok(()),
     }
@@ -339,13 +398,13 @@ fn put_word(
     text: &mut Text,
     program: &Program,
     writing: Writing,
-    place: u32,
+    place: Option<u32>,
     word: u32,
 ) -> Result<Writing, AllocError>
-    ensures text { OnOk result (text.new ≡ text.old ++ Images.word_text program.now writing (kept_number place) word) }
-    ensures writing { IfOk result (λ w. w ≡ Images.after_word program.now writing (kept_number place) word) }
+    ensures text { OnOk result (text.new ≡ text.old ++ Images.word_text program.now writing place word) }
+    ensures writing { IfOk result (λ w. w ≡ Images.after_word program.now writing place word) }
 {
-    match kept_number(place) {
+    match place {
         Some(symbol) => put_place(text, program, writing, symbol),
         None if word == 0 => put_zero(text, writing),
         None => put_number(text, writing, word),
@@ -357,12 +416,12 @@ fn before_begin(
     text: &mut Text,
     program: &Program,
     writing: Writing,
-    begins: u32,
+    begins: Option<usize>,
 ) -> Result<Writing, AllocError>
-    ensures text { OnOk result (text.new ≡ text.old ++ Images.begin_text program.now writing (kept_number begins)) }
-    ensures writing { IfOk result (λ w. w ≡ Images.after_begin writing (kept_number begins)) }
+    ensures text { OnOk result (text.new ≡ text.old ++ Images.begin_text program.now writing begins) }
+    ensures writing { IfOk result (λ w. w ≡ Images.after_begin writing begins) }
 {
-    match kept_number(begins) {
+    match begins {
         Some(number) => {
             end_line(text, writing)?;
             put_label(text, program, number)?;
@@ -685,7 +744,7 @@ pub(crate) fn put_data(
     behind: u32,
     end: u32,
 ) -> Result<(), AllocError>
-    ensures { OnOk result (IsData program.now out.now end text.old text.new) }
+    ensures { OnOk result (text.new ≡ text.old ++ Sources.data_text program.now out.now behind end) }
 {
     let image = image_of(alloc, program, behind, end)?;
     put_front(text, out.input)?;

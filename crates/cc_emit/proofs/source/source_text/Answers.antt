@@ -1,8 +1,5 @@
 use Rattle.std.proofs.Common.{◌++◌, ap, ◌∙◌}
-use Rattle.cc_emit.specs.declared.words.Writing.TheVariants.{Nothing}
-use Rattle.cc_emit.specs.Data.{front_text, added_text}
-use Rattle.cc_emit.specs.Images.{image_text}
-use Rattle.cc_emit.specs.Sources.{code_text}
+use Rattle.cc_emit.specs.Sources.{code_text, data_text}
 use Rattle.cc_emit.proofs.More.{whole_text}
 use Rattle.cc_emit.proofs.source.source_text.Goals as goal
 
@@ -10,9 +7,7 @@ pub returns : goal.returns
 returns c =
     let p = c.args.program.now in
     let out = c.args.out.now in
-    let d = c.in_ok-put_data.ensures in
-    let more = (front_text out.input ++ image_text p d.0 Nothing d.1) ++ added_text out c.args.end in
     let code =
     c.in_ok-put_code.ensures ∙ (ap (λ t. t ++ code_text p c.deref.result.now) c.new-text.ensures ∙ ap (λ lines. code_text p lines) c.deref.ensures.value) in
-    whole_text (code_text p out.lines.items) more _ c.put_code.new.text c.put_data.new.text c.put_size.new.text _ code d.2 c.in_ok-put_size.ensures
-    c.into_bytes.ensures
+    whole_text (code_text p out.lines.items) (data_text p out c.args.behind c.args.end) _ c.put_code.new.text c.put_data.new.text c.put_size.new.text _ code
+    c.in_ok-put_data.ensures c.in_ok-put_size.ensures c.into_bytes.ensures
