@@ -8,8 +8,8 @@ loop-which-init c = record { lines = adds_none c.args.out.now.lines.items c.args
 pub loop-which-preserved : goal.loop-which-preserved
 loop-which-preserved c = record {
   lines = adds_more c.args.out.now.lines.items c.loop-which.out.lines.items c.put_if_called.new.out.lines.items c.args.out.now.routines.items
-    c.loop-which.out.routines.items c.args.routines.now c.loop-which.which-index _ (ap (λ v. v.items) c.loop-which.invariant.routines)
-    c.loop-which-test.true c.loop-which.invariant.lines c.in_ok-put_if_called.ensures.lines;
+      c.loop-which.out.routines.items c.args.routines.now c.loop-which.which-index _ (ap (λ v. v.items) c.loop-which.invariant.routines)
+      c.loop-which-test.true c.loop-which.invariant.lines c.in_ok-put_if_called.ensures.lines;
   routines = c.in_ok-put_if_called.ensures.routines ∙ c.loop-which.invariant.routines;
 }
 
