@@ -30,7 +30,7 @@ struct Ran {
 }
 
 /// Runs a program from its start.
-fn ran(
+fn run_from_start(
     alloc: Global,
     program: &Program<'_>,
     end: u32,
@@ -65,7 +65,7 @@ pub fn execute<W: Sink>(
     ensures printed { OnOk result (W.written out.new ≡ W.written out.old ++ (meaning program.now end symbol input.now steps).console) }
     ensures ending { IfOk result (λ r. r.ending ≡ (meaning program.now end symbol input.now steps).ending) }
 {
-    let Ok(ran) = ran(alloc, program, end, symbol, input, steps) else {
+    let Ok(ran) = run_from_start(alloc, program, end, symbol, input, steps) else {
         return Err(Fault::Memory);
     };
     match put_all(out, ran.console.as_slice()) {

@@ -22,7 +22,7 @@ pub struct Ended {
 }
 
 /// An end with a text for standard error, if there is memory for it.
-fn ended(alloc: Global, status: Status, text: Result<Vec<u8>, AllocError>) -> Ended {
+fn end_with(alloc: Global, status: Status, text: Result<Vec<u8>, AllocError>) -> Ended {
     match text {
         Ok(errors) => Ended {
             status: status.number(),
@@ -43,8 +43,8 @@ fn copied(alloc: Global, text: &str) -> Result<Vec<u8>, AllocError> {
 /// The end of a command whose files are not read.
 fn failed(alloc: Global, failure: Failure) -> Ended {
     match failure {
-        Failure::Answered(Reply::Prints { status, output }) => ended(alloc, status, Ok(output)),
-        _ => ended(alloc, Status::Memory, Ok(Vec::new(alloc))),
+        Failure::Answered(Reply::Prints { status, output }) => end_with(alloc, status, Ok(output)),
+        _ => end_with(alloc, Status::Memory, Ok(Vec::new(alloc))),
     }
 }
 
@@ -99,7 +99,7 @@ fn run_ended(alloc: Global, names: &[&str], program: &Program<'_>, executed: Exe
             status: status_of(executed.ending),
             errors,
         },
-        Err(error) => ended(alloc, Status::Memory, Err(error)),
+        Err(error) => end_with(alloc, Status::Memory, Err(error)),
     }
 }
 
@@ -114,12 +114,12 @@ fn program_ended<W: Sink>(
 ) -> Ended {
     let (symbol, end) = first;
     let Ok(end) = u32::try_from(end.min(u64::from(LIMIT))) else {
-        return ended(alloc, Status::Refused, Ok(Vec::new(alloc)));
+        return end_with(alloc, Status::Refused, Ok(Vec::new(alloc)));
     };
     match execute(alloc, program, end, symbol, input, asked.steps, out) {
         Ok(executed) => run_ended(alloc, &asked.files, program, executed),
-        Err(Fault::Memory) => ended(alloc, Status::Memory, Ok(Vec::new(alloc))),
-        Err(Fault::Write) => ended(alloc, Status::WriteFault, Ok(Vec::new(alloc))),
+        Err(Fault::Memory) => end_with(alloc, Status::Memory, Ok(Vec::new(alloc))),
+        Err(Fault::Write) => end_with(alloc, Status::WriteFault, Ok(Vec::new(alloc))),
     }
 }
 
@@ -135,7 +135,7 @@ fn texts_ended<W: Sink>(
     let mut reader = Reader::new(alloc)?;
     Ok(match reader.read_all(&slices) {
         Ok(first) => program_ended(alloc, asked, &reader.program, first, input, out),
-        Err(error) => ended(
+        Err(error) => end_with(
             alloc,
             Status::Refused,
             refusal_line(alloc, &asked.files, &error),
@@ -173,7 +173,7 @@ pub fn execute_files<S: Shelf, W: Sink>(
             Ok(ended) => ended,
             Err(failure) => failed(alloc, failure),
         },
-        Ok(None) => ended(alloc, Status::Usage, copied(alloc, USAGE)),
-        Err(error) => ended(alloc, Status::Memory, Err(error)),
+        Ok(None) => end_with(alloc, Status::Usage, copied(alloc, USAGE)),
+        Err(error) => end_with(alloc, Status::Memory, Err(error)),
     }
 }
