@@ -2,5 +2,7 @@
 #![tactic(auto)]
 
 mod outcome;
+mod sides;
 
-pub use outcome::{Delivery, Destination, ExitReport, failed, put_out};
+pub use outcome::{Answer, Destination, Ended, failed, put_out};
+pub use sides::is_error;
