@@ -2,7 +2,7 @@
 
 use crate::execution::Executed;
 use cc_meaning::{Ending, Why};
-use cc_program::{Function, Item, Program, ReadError};
+use cc_program::{Fault, Function, Item, Program, ReadError};
 use std::alloc::{AllocError, Global};
 
 /// Why a program cannot go on, in words.
@@ -80,25 +80,34 @@ pub(crate) fn ending_line(
     Ok(text)
 }
 
-/// The line for texts that are not read: `FILE:LINE: why`, and the symbol that it is about.
+/// What is said of a faulty line: `FILE:LINE: why`, and the symbol that it is about.
+fn push_fault(
+    alloc: Global,
+    text: &mut Vec<u8>,
+    names: &[&str],
+    fault: &Fault,
+) -> Result<(), AllocError> {
+    let name = names.get(fault.unit as usize).copied().unwrap_or("");
+    let number = fault.line;
+    let reason = fault.refusal.reason();
+    let line = format!(in alloc; "{name}:{number}: {reason}")?;
+    text.extend_from_slice(line.as_bytes())?;
+    if let Some(symbol) = fault.symbol {
+        text.extend_from_slice(b": ")?;
+        text.extend_from_slice(symbol)?;
+    }
+    Ok(())
+}
+
+/// The line for texts that are not read.
 pub(crate) fn refusal_line(
     alloc: Global,
     names: &[&str],
     error: &ReadError<'_>,
 ) -> Result<Vec<u8>, AllocError> {
     let mut text = Vec::new(alloc);
-    match *error {
-        ReadError::Fault(fault) => {
-            let name = names.get(fault.unit as usize).copied().unwrap_or("");
-            let number = fault.line;
-            let reason = fault.refusal.reason();
-            let line = format!(in alloc; "{name}:{number}: {reason}")?;
-            text.extend_from_slice(line.as_bytes())?;
-            if let Some(symbol) = fault.symbol {
-                text.extend_from_slice(b": ")?;
-                text.extend_from_slice(symbol)?;
-            }
-        }
+    match error {
+        ReadError::Fault(fault) => push_fault(alloc, &mut text, names, fault)?,
         ReadError::NoMain => text.extend_from_slice(b"no file defines main")?,
         ReadError::Memory => return Err(AllocError),
     }
