@@ -1,5 +1,5 @@
 -- Sessions of sources that are linked by the plans of a file.
-use Rattle.std.specs.Prelude.{◌≡◌, ℕ, Bool, true, List, codes, cond, ltb, length, Option, Some, None, is_some, option_and_then, option_map}
+use Rattle.std.specs.Prelude.{◌≡◌, ℕ, Bool, true, List, codes, cond, ltb, length, min, max, Option, Some, None, is_some, option_and_then, option_map}
 use Rattle.mx_isa.specs.Board.{board}
 use Rattle.mx_io.specs.Shelves.{Told, Counts}
 use Rattle.mx_source.specs.declared.Label.{Label}
@@ -30,6 +30,14 @@ statement_at count (Data a) = None
 -- the statement at the code label of this name
 abbrev pub statement_named : SourceValue → List ℕ → Option ℕ
 statement_named source name = option_and_then (statement_at (length source.statements)) (label_named source.labels name)
+
+-- the limits that the options ask for, each held within its range
+abbrev pub limits_of : DebugOptions → SessionLimits
+limits_of options = record {
+  stops = max 1 (min options.stops 1000);
+  watch = max 256 (min options.watch 65535);
+  budget = min options.budget 100000000;
+}
 
 -- the files of a session, by the names that they have in memory
 abbrev pub session_files : Files
@@ -62,7 +70,6 @@ pub record IsDebugOf (told : Told) (options : DebugOptions) (before after : Coun
   pub lines : List LineSaid
   pub index : ℕ
   pub stimulus : Stimulus
-  pub limits : SessionLimits
   pub read : Counts
   pub planned : Counts
   pub source_is : IsSourceOf told options.source.now before read text source
@@ -70,4 +77,4 @@ pub record IsDebugOf (told : Told) (options : DebugOptions) (before after : Coun
   pub plans : ArePlansOf told options.plans.now source read planned lines
   pub given : AreGiven told (option_map (λ s. s.now) options.stimulus.interrupts) (option_map (λ s. s.now) options.stimulus.input)
       planned after stimulus
-  pub session : IsSession source lines index stimulus.cycles.items stimulus.input.items limits answer
+  pub session : IsSession source lines index stimulus.cycles.items stimulus.input.items (limits_of options) answer

@@ -12,13 +12,14 @@ ghost use Rattle.cmd_options.specs.Options.{IsAsked};
 ghost use Rattle.lab_runs.specs.declared.stimulus.Stimulus.{Stimulus as Given};
 ghost use Rattle.lab_runs.specs.PlanFiles.{ArePlansOf};
 ghost use Rattle.lab_runs.specs.Refusals.{IsTooFar};
-ghost use Rattle.lab_runs.specs.Sessions.{statement_at, statement_named, IsSessionOf, IsSession, IsDebugOf};
+ghost use Rattle.lab_runs.specs.Sessions.{statement_at, statement_named, limits_of, IsSessionOf, IsSession, IsDebugOf};
 ghost use Rattle.lab_runs.specs.Stimuli.{AreGiven};
 
 use crate::plan_files::plans_of;
 use crate::quiet_files::{INPUT, INTERRUPTS, QuietFiles};
 use crate::sources::{read_source, unlinked};
-use crate::stimulus::{Stimulus, read_stimulus};
+use crate::stimulus::Stimulus;
+use crate::stimulus_files::read_stimulus;
 use cmd_answer::{Reply, replied};
 use cmd_debug::debug_image;
 use cmd_options::{RunFiles, SessionLimits};
@@ -150,7 +151,8 @@ fn stopped_reply<'w>(
 
 // What the options ask of a session: the table of commands has the same ranges.
 fn session_limits(options: &DebugOptions) -> SessionLimits
-    ensures { IsAsked result }
+    ensures asked { IsAsked result }
+    ensures limits { result ≡ limits_of options.now }
 {
     SessionLimits {
         stops: options.stops.clamp(1, 1000),
@@ -200,9 +202,9 @@ fn labelled_reply<'w, S: Shelf>(
     index: u32,
 ) -> Result<Reply, LabFailure<'w>>
     requires { index < length source.now.statements }
-    ensures { IfOk result (λ r. (stimulus : Given) × (limits : SessionLimits) × AreGiven (S.told shelf.old) (option_map (λ s. s.now) options.now.stimulus.interrupts)
+    ensures { IfOk result (λ r. (stimulus : Given) × AreGiven (S.told shelf.old) (option_map (λ s. s.now) options.now.stimulus.interrupts)
         (option_map (λ s. s.now) options.now.stimulus.input) (S.counts shelf.old) (S.counts shelf.new) stimulus
-        × IsSession source.now (lines_said lines.now) index stimulus.cycles.items stimulus.input.items limits (reply_answer r)) }
+        × IsSession source.now (lines_said lines.now) index stimulus.cycles.items stimulus.input.items (limits_of options.now) (reply_answer r)) }
 {
     let stimulus = read_stimulus(alloc, shelf, options.stimulus)?;
     let limits = session_limits(options);
@@ -228,11 +230,11 @@ fn session_reply<'w, S: Shelf>(
     notes: &mut Vec<u8>,
 ) -> Result<Reply, LabFailure<'w>>
     requires { index < length source.now.statements }
-    ensures { IfOk result (λ r. (lines : List LineSaid) × (stimulus : Given) × (limits : SessionLimits) × (planned : Counts)
+    ensures { IfOk result (λ r. (lines : List LineSaid) × (stimulus : Given) × (planned : Counts)
         × ArePlansOf (S.told shelf.old) options.now.plans.now source.now (S.counts shelf.old) planned lines
         × AreGiven (S.told shelf.old) (option_map (λ s. s.now) options.now.stimulus.interrupts)
         (option_map (λ s. s.now) options.now.stimulus.input) planned (S.counts shelf.new) stimulus
-        × IsSession source.now lines index stimulus.cycles.items stimulus.input.items limits (reply_answer r)) }
+        × IsSession source.now lines index stimulus.cycles.items stimulus.input.items (limits_of options.now) (reply_answer r)) }
 {
     let lines = read_lines(alloc, options, shelf, source, notes)?;
     let reply = labelled_reply(alloc, options, shelf, source, lines.as_slice(), index)?;

@@ -17,6 +17,7 @@ mod runs;
 mod schedulers;
 mod sources;
 mod stimulus;
+mod stimulus_files;
 mod trace;
 
 pub use blocks_ran::{RanBlocks, ran_blocks};
@@ -30,5 +31,6 @@ pub use plan_files::plans_of;
 pub use profile::profile_reply;
 pub use replies::{or_memory, printed};
 pub use sources::{linked_text, read_program, read_source, unlinked};
-pub use stimulus::{Stimulus, read_stimulus};
+pub use stimulus::Stimulus;
+pub use stimulus_files::read_stimulus;
 pub use trace::trace_reply;

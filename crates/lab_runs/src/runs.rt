@@ -6,7 +6,8 @@ ghost use Rattle.lab_runs.specs.Runs.{input_of, IsOfFile, IsLoaded, IsRunOf};
 
 use crate::planners::{PlannedProgram, Planner, planned};
 use crate::sources::read_program;
-use crate::stimulus::{Stimulus, read_stimulus};
+use crate::stimulus::Stimulus;
+use crate::stimulus_files::read_stimulus;
 use cmd_source::Program;
 use lab_failure::LabFailure;
 use lab_line::RunOptions;
