@@ -13,10 +13,9 @@ use Rattle.lab_runs.specs.Refusals.{Tells, IsUnlinked}
 
 pub too_far : (Proposes : Block → Plan → Type 0) (name : List ℕ) (source : SourceValue) (error : LinkError) (failure : LabFailure)
     → IsRefusal Proposes source board error → Tells name error failure → IsUnlinked name Proposes source failure
-too_far P name source (link.Displacement line from to) (TooFar n l f t) refusal tells = (
-  tells.0,
-  subst (λ (o : Overlong). IsOverlong P source board o)
-      (λ i. record { line = sym tells.1.0 i; from = sym tells.1.1.0 i; to = sym tells.1.1.1 i }) refusal,
+too_far P name source (link.Displacement line from to) (TooFar n l f t) refusal (named, lines, froms, tos) = (
+  named,
+  subst (λ (o : Overlong). IsOverlong P source board o) (λ i. record { line = sym lines i; from = sym froms i; to = sym tos i }) refusal,
 )
 too_far P name source (link.Displacement line from to) Memory refusal tells = tt
 too_far P name source (link.Displacement line from to) (Arguments fault) refusal tells = absurd tells

@@ -117,7 +117,9 @@ fn session<'w>(
     ensures { IfOk result (λ r. IsSessionOf image.now.code.items image.now.user_data.items asks address stimulus.now.cycles.items
         stimulus.now.input.items limits.now (reply_answer r)) }
 {
-    let mut shelf = QuietFiles::new(alloc, &stimulus.cycles, &stimulus.input)?;
+    let cycles = stimulus.cycles.as_slice();
+    let input = stimulus.input.as_slice();
+    let mut shelf = QuietFiles::new(alloc, cycles, input)?;
     let files = RunFiles {
         interrupts: Some(INTERRUPTS),
         input: Some(INPUT),
