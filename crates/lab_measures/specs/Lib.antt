@@ -1,7 +1,8 @@
 pub mod Terms
 pub mod Figures
 pub mod Comparisons
-pub mod Within
+pub mod Entries
+pub mod Progress
 pub mod Rows
 pub mod Spreads
 pub mod Spans

@@ -1,6 +1,8 @@
 -- What a row tells.
-use Rattle.std.specs.Prelude.{ℕ, ◌^◌, ℤ, pos, ◌-ℤ◌, ◌&&◌, nat_lt, if◌then◌else◌, Option, Some, None, unwrap_or}
+use Rattle.std.specs.Prelude.{ℕ, ◌^◌, ℤ, pos, ◌-ℤ◌, Bool, true, false, ◌&&◌, nat_lt, if◌then◌else◌, Option, Some, None, unwrap_or}
 use Rattle.std.specs.Option.{option_and_then}
+use Rattle.mx_turn.specs.declared.latches.Stage.{Stage}
+use Rattle.mx_turn.specs.declared.latches.Stage.TheVariants.{Empty, Live, Squashed}
 use Rattle.lab_measures.specs.declared.observed.Entry.{Entry}
 use Rattle.lab_measures.specs.declared.row.Row.{Row}
 
@@ -19,3 +21,13 @@ wait_of row = option_and_then (λ e. behind e.fetched (last_request row)) row.en
 -- how many cycles more the run takes than so many, if it halted
 abbrev pub cost_over : Row → ℕ → Option ℤ
 cost_over row undisturbed = if row.halted then behind row.cycles undisturbed else None
+
+-- the address of a fetch in a stage, if it holds one, and whether it is squashed
+abbrev pub fetch_in : Stage → Option (ℕ × Bool)
+fetch_in Empty = None
+fetch_in (Live address) = Some (address, false)
+fetch_in (Squashed address) = Some (address, true)
+
+-- the first fetch that the interrupt killed and the handler brings back
+abbrev pub killed_of : Row → Option (ℕ × Bool)
+killed_of row = option_and_then (λ e. fetch_in e.killed) row.entry

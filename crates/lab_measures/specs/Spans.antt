@@ -1,5 +1,6 @@
 -- The cycles in which requests come.
-use Rattle.std.specs.Prelude.{ℕ, zero, suc, ◌+◌, ◌-◌, ◌*◌, ◌/◌, ◌%◌, ◌==◌, cond, List, [], ◌∷◌, ◌++◌}
+use Rattle.std.specs.Prelude.{ℕ, zero, suc, ◌+◌, ◌-◌, ◌*◌, ◌/◌, ◌%◌, ◌==◌, cond, ltb, List, [], ◌∷◌, ◌++◌, map}
+use Rattle.std.specs.List.{filter}
 use Rattle.lab_measures.specs.declared.cycles.Span.{Span}
 
 -- how many cycles there are from the first of a span to its last, both included
@@ -18,3 +19,12 @@ cycles_in span = cycles_among span (apart_in span)
 -- how many pairs n cycles make
 abbrev pub pairs_of : ℕ → ℕ
 pairs_of n = n * (n - 1) / 2
+
+-- a cycle with each of others that is later
+abbrev pub pairs_with : ℕ → List ℕ → List (List ℕ)
+pairs_with first others = map (λ second. first ∷ second ∷ []) (filter (λ second. ltb first second) others)
+
+-- each two of some cycles of which the one behind is later, by the one before, and then by the one behind
+abbrev pub rising_pairs : List ℕ → List (List ℕ)
+rising_pairs [] = []
+rising_pairs (first ∷ others) = pairs_with first others ++ rising_pairs others

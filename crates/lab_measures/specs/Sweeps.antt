@@ -3,6 +3,7 @@ use Rattle.std.specs.Prelude.{◌≡◌, ℕ, true, List, ◌∷◌, map}
 use Rattle.std.specs.Option.{option_to_list}
 use Rattle.mx_turn.specs.Program.{Program, image_program}
 use Rattle.mx_turn.specs.Run.{run_of}
+use Rattle.lab_measures.specs.Entries.{EntersBy}
 use Rattle.lab_measures.specs.declared.row.Row.{Row}
 use Rattle.lab_measures.specs.declared.sweep.Swept.{Swept}
 
@@ -15,6 +16,7 @@ pub record IsRow (p : Program) (budget : ℕ) (undisturbed : List ℕ) (row : Ro
   pub cycles : row.cycles ≡ (run_of p (requests_of row) budget).counts.cycles
   pub halted : row.halted ≡ (run_of p (requests_of row) budget).halted
   pub same : row.same_console ≡ true → (run_of p (requests_of row) budget).console ≡ undisturbed
+  pub entry : EntersBy p (requests_of row) budget row.entry
   pub other : (run_of p (requests_of row) budget).console ≡ undisturbed → row.same_console ≡ true
 
 -- a row of a sweep of this

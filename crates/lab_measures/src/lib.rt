@@ -23,7 +23,7 @@ pub use linking::{PaddedProposer, linked_with};
 pub use machine::{Ran, run_machine};
 pub use meaning::{Standing, stand};
 pub use measure::{figures_of, figures_of_linked};
-pub use observed::{Entry, Observed, Run};
+pub use observed::{Entry, Run};
 pub use row::Row;
 pub use runs::run_with;
 pub use spread::{Bin, Spread, spread_of};

@@ -1,11 +1,17 @@
-//! A machine, and how its last request became an interrupt.
-ghost use Rattle.std.specs.Prelude.{◌≡◌, ◌≤◌, ◌<◌, ◌+◌, ◌^◌, ◌++◌, ◌∷◌, [], List, Bool};
-ghost use Rattle.mx_turn.specs.Program.{Program, answer_after};
+//! A run, and how its last request became an interrupt.
+ghost use Rattle.std.specs.Prelude.{◌≡◌, IfSome, IfNone, IfOk, ℕ, List, Bool, [], true, false, suc};
+ghost use Rattle.mx_turn.specs.Program.{Program, state_after, answer_after};
+ghost use Rattle.mx_turn.specs.Run.{is_requested, bits, console_after, run_of};
+ghost use Rattle.lab_measures.specs.declared.observed.Progress.TheVariants.{Idle};
+ghost use Rattle.lab_measures.specs.Entries.{Signals, IsEntry, signals_of, EntersBy};
+ghost use Rattle.lab_measures.specs.Progress.{Reached, is_open, after_request, after_turn};
 
-use mx_isa::Reg;
-use mx_report::Driven;
-use mx_turn::{Counts, Cycled, Latches, Machine, Stage};
-use std::alloc::AllocError;
+use mx_board::Requests;
+use mx_io::Memory;
+use mx_report::{Observer, observe};
+use mx_text::push_byte;
+use mx_turn::{Counts, Cycled, Machine, Stage};
+use std::alloc::{AllocError, Global};
 
 /// How a request became an interrupt.
 #[derive(Clone, Copy)]
@@ -21,7 +27,9 @@ pub struct Entry {
 /// What a run gave.
 #[derive(Drop)]
 pub struct Run {
-    pub driven: Driven,
+    pub halted: bool,
+    pub counts: Counts,
+    pub console: Vec<u8>,
     /// How its last request became an interrupt, if it did.
     pub entry: Option<Entry>,
 }
@@ -39,123 +47,167 @@ enum Progress {
     Entered(Entry),
 }
 
-/// The machine within, of whose last request it is noted how it became an interrupt.
-#[derive(Drop)]
-pub struct Observed<M> {
-    machine: M,
-    progress: Progress,
-}
-
-impl<M: Machine> Observed<M> {
-    ghost use Rattle.lab_measures.specs.Within.{within};
-
-    /// The machine, of whose requests from now on the last is observed.
-    pub fn new(machine: M) -> Observed<M>
-        ensures { within result ≡ machine }
+impl Progress {
+    // Where a request comes in the coming cycle, or not.
+    fn asked(self, request: bool) -> Progress
+        ensures { result ≡ after_request request self }
     {
-        Observed {
-            machine,
-            progress: Progress::Idle,
+        if request { Progress::Waiting } else { self }
+    }
+
+    // After a cycle, in which an interrupt was taken or not, and which was stalled or not; ALU then shows this stage.
+    fn turned(self, cycle: u64, taken: bool, stalled: bool, alu: Stage) -> Progress
+        ensures { result ≡ after_turn cycle taken stalled alu self }
+    {
+        match self {
+            Progress::Waiting if taken => Progress::Taken { cycle, killed: alu },
+            Progress::Taken {
+                cycle: taken,
+                killed,
+            } if !stalled => Progress::Entered(Entry {
+                taken,
+                fetched: cycle,
+                killed,
+            }),
+            other => other,
         }
     }
 
-    /// How the last request became an interrupt, if it did and the handler was entered.
-    pub fn entry(&self) -> Option<Entry> {
-        match self.progress {
+    // Whether the last request waits for its interrupt, or that for the handler.
+    fn is_open(self) -> bool
+        ensures { result ≡ is_open self }
+    {
+        matches!(self, Progress::Waiting | Progress::Taken { .. })
+    }
+
+    // How the last request became an interrupt, if it did and the handler was entered.
+    fn entry(self) -> Option<Entry>
+        ensures entry { (s : Signals) (n : ℕ) → Reached s n n self → IfSome result (IsEntry s n) }
+        ensures none { (s : Signals) (n : ℕ) → Reached s n n self → IfNone result ((e : Entry) → IsEntry s n e → ⊥) }
+    {
+        match self {
             Progress::Entered(entry) => Some(entry),
             _ => None,
         }
     }
+}
 
-    // Whether a request waits for its interrupt, or that for the handler.
-    fn is_watching(&self) -> bool {
-        matches!(self.progress, Progress::Waiting | Progress::Taken { .. })
-    }
-
-    // Notes what a cycle means for the last request.
-    fn note(&mut self, cycle: u64, cycled: &Cycled)
-        ensures { within self.new ≡ within self.old }
-    {
-        match self.progress {
-            Progress::Waiting if cycled.taken => {
-                self.progress = Progress::Taken {
-                    cycle,
-                    killed: self.machine.latches().alu,
-                };
-            }
-            Progress::Taken {
-                cycle: taken,
-                killed,
-            } if !cycled.stalled => {
-                self.progress = Progress::Entered(Entry {
-                    taken,
-                    fetched: cycle,
-                    killed,
-                });
-            }
-            _ => {}
-        }
-    }
-
-    // One cycle of a machine whose last request is on its way.
-    fn watch(&mut self, request: bool) -> Cycled
-        requires { M.cycles (within self.old) < 2 ^ 63 }
-        ensures answer { (p : Program) (h : List Bool) → M.stands (within self.old) p h → result ≡ answer_after p h request }
-        ensures next { (p : Program) (h : List Bool) → M.stands (within self.old) p h → M.stands (within self.new) p (h ++ request ∷ []) }
-        ensures cycles { M.cycles (within self.new) ≤ M.cycles (within self.old) + 1 }
-    {
-        let cycle = self.machine.counts().cycles;
-        let cycled = self.machine.cycle(request);
-        self.note(cycle, &cycled);
-        cycled
+// What ALU shows after a cycle in which an interrupt was taken. Elsewhere it is not asked for, since it costs as much as the cycle.
+fn killed_in<M: Machine>(machine: &M, taken: bool) -> Stage
+    ensures { taken ≡ true → (p : Program) (h : List Bool) → M.stands machine.now p h → result ≡ (state_after p h).shown.alu }
+{
+    if taken {
+        machine.latches().alu
+    } else {
+        Stage::Empty
     }
 }
 
-impl<M: Machine> Machine for Observed<M> {
-    ghost use Rattle.lab_measures.specs.Within.{within};
+// How far the last request has come after one more cycle, which the machine has done.
+fn progress_after<M: Machine>(
+    before: Progress,
+    machine: &M,
+    cycle: u32,
+    request: bool,
+    cycled: &Cycled,
+) -> Progress
+    ensures { (p : Program) (requests : List ℕ) → request ≡ is_requested requests cycle
+        → cycled.now ≡ answer_after p (bits requests cycle) (is_requested requests cycle) → M.stands machine.now p (bits requests (suc cycle))
+        → Reached (signals_of p requests) cycle cycle before → Reached (signals_of p requests) (suc cycle) (suc cycle) result }
+{
+    let alu = killed_in(machine, cycled.taken);
+    let asked = before.asked(request);
+    asked.turned(u64::from(cycle), cycled.taken, cycled.stalled, alu)
+}
 
-    ghost stands = { λ t p h. M.stands (within t) p h };
+// Who notes the console of a run, and how far its last request has come.
+#[derive(Drop)]
+struct Noter;
 
-    ghost cycles = { λ t. M.cycles (within t) };
+// What it notes.
+#[derive(Drop)]
+struct Notes {
+    console: Vec<u8>,
+    progress: Progress,
+}
 
-    fn cycle(&mut self, request: bool) -> Cycled {
-        if request {
-            self.progress = Progress::Waiting;
-        }
-        if self.is_watching() {
-            return self.watch(request);
-        }
-        self.machine.cycle(request)
+impl<M: Machine> Observer<M> for Noter {
+    type Notes = Notes;
+
+    ghost saw = { λ noter notes p requests n.
+        (notes.console.items ≡ console_after p (bits requests n)) × Reached (signals_of p requests) n n notes.progress };
+
+    ghost fits = { λ noter notes n. Unit {0} };
+
+    ghost enough = { λ noter notes. false };
+
+    fn has_enough(&self, _notes: &Notes) -> bool {
+        false
     }
 
-    fn advance(&mut self, most: u64, console: &mut Vec<u8>) -> Result<u64, AllocError> {
-        if self.is_watching() {
+    fn cycle(
+        &self,
+        notes: &mut Notes,
+        machine: &mut M,
+        cycle: u32,
+        request: bool,
+    ) -> Result<Cycled, AllocError> {
+        let cycled = machine.cycle(request);
+        push_byte(&mut notes.console, cycled.byte)?;
+        notes.progress = progress_after(notes.progress, machine, cycle, request, &cycled);
+        Ok(cycled)
+    }
+
+    fn advance(
+        &self,
+        notes: &mut Notes,
+        machine: &mut M,
+        _cycle: u32,
+        most: u32,
+    ) -> Result<u32, AllocError> {
+        if notes.progress.is_open() {
             return Ok(0);
         }
-        self.machine.advance(most, console)
+        let done = machine.advance(u64::from(most), &mut notes.console)?;
+        Ok(done as u32)
     }
+}
 
-    fn counts(&self) -> Counts {
-        self.machine.counts()
+// Nothing yet.
+fn no_notes(alloc: Global) -> Notes
+    ensures console { result.console.items ≡ [] }
+    ensures progress { result.progress ≡ Idle }
+{
+    Notes {
+        console: Vec::new(alloc),
+        progress: Progress::Idle,
     }
+}
 
-    fn register(&self, r: Reg) -> u32 {
-        self.machine.register(r)
-    }
-
-    fn md(&self) -> u32 {
-        self.machine.md()
-    }
-
-    fn user_data(&self, address: u32) -> u32 {
-        self.machine.user_data(address)
-    }
-
-    fn inputs(&self) -> u32 {
-        self.machine.inputs()
-    }
-
-    fn latches(&self) -> Latches {
-        self.machine.latches()
-    }
+/// The run of a machine from its start, under these requests, for at most `budget` cycles.
+pub(crate) fn run_noted<M: Machine>(
+    alloc: Global,
+    machine: &mut M,
+    requests: &Requests,
+    budget: u32,
+) -> Result<Run, Memory>
+    requires start { M.cycles machine.old ≡ 0 }
+    ensures halted { IfOk result (λ r. (p : Program) → M.stands machine.old p [] → r.halted ≡ (run_of p requests.now budget).halted) }
+    ensures counts { IfOk result (λ r. (p : Program) → M.stands machine.old p [] → r.counts ≡ (run_of p requests.now budget).counts) }
+    ensures console { IfOk result (λ r. (p : Program) → M.stands machine.old p [] → r.console.items ≡ (run_of p requests.now budget).console) }
+    ensures entry { IfOk result (λ r. (p : Program) → M.stands machine.old p [] → EntersBy p requests.now budget r.entry) }
+{
+    let noter = Noter;
+    let mut notes = no_notes(alloc);
+    let reached = match observe(machine, requests, 0, budget, &noter, &mut notes) {
+        Ok(reached) => reached,
+        Err(_) => return Err(Memory),
+    };
+    let Notes { console, progress } = notes;
+    Ok(Run {
+        halted: reached.halted,
+        counts: machine.counts(),
+        console,
+        entry: progress.entry(),
+    })
 }

@@ -1,6 +1,6 @@
 //! What is told of a run.
 ghost use Rattle.std.specs.Prelude.{◌≡◌};
-ghost use Rattle.lab_measures.specs.Rows.{last_request, wait_of, cost_over};
+ghost use Rattle.lab_measures.specs.Rows.{last_request, wait_of, cost_over, killed_of};
 
 use crate::observed::Entry;
 use mx_turn::Stage;
@@ -50,7 +50,9 @@ impl Row {
 
     /// The address of the first word that the interrupt killed and the handler brings back, if there is one, and whether it
     /// was squashed.
-    pub fn killed(&self) -> Option<(u32, bool)> {
+    pub fn killed(&self) -> Option<(u32, bool)>
+        ensures { result ≡ killed_of self.now }
+    {
         match self.entry?.killed {
             Stage::Live(address) => Some((address, false)),
             Stage::Squashed(address) => Some((address, true)),

@@ -1,9 +1,10 @@
 //! Runs with a request in each of some cycles in turn.
-ghost use Rattle.std.specs.Prelude.{◌≡◌, ◌<◌, ◌∷◌, All, IfOk, IfSome, None, if◌then◌else◌};
+ghost use Rattle.std.specs.Prelude.{◌≡◌, ◌<◌, ◌∷◌, ◌++◌, [], All, OnOk, IfOk, IfSome, None, if◌then◌else◌, cond, ltb, map};
 ghost use Rattle.std.specs.Option.{option_to_list};
 ghost use Rattle.mx_board.specs.Contents.{IsInput};
 ghost use Rattle.lab_measures.specs.Rows.{cost_over};
-ghost use Rattle.lab_measures.specs.Sweeps.{IsRowOf, firsts};
+ghost use Rattle.lab_measures.specs.Spans.{pairs_with, rising_pairs};
+ghost use Rattle.lab_measures.specs.Sweeps.{IsRowOf, requests_of, firsts};
 
 use crate::cycles::Span;
 use crate::row::Row;
@@ -105,11 +106,18 @@ fn row_of(alloc: Global, swept: &Swept, first: u32, second: Option<u32>) -> Resu
     Ok(Row {
         first,
         second,
-        cycles: run.driven.counts.cycles,
-        halted: run.driven.halted,
-        same_console: run.driven.console.as_slice() == swept.undisturbed,
+        cycles: run.counts.cycles,
+        halted: run.halted,
+        same_console: run.console.as_slice() == swept.undisturbed,
         entry: run.entry,
     })
+}
+
+// Adds a row.
+fn push_row(rows: &mut Vec<Row>, row: Row) -> Result<(), Memory>
+    ensures { OnOk result (rows.new.items ≡ rows.old.items ++ row ∷ []) }
+{
+    rows.push(row).map_err(|_| Memory)
 }
 
 /// The runs with a request in each of some cycles in turn, under the shipped handler. A watcher is told how many cycles they have come together.
@@ -124,30 +132,68 @@ pub fn singles<W: Watcher>(alloc: Global, swept: &Swept, watcher: W) -> Result<V
     for first in swept.cycles {
         let row = row_of(alloc, swept, *first, None)?;
         progress.add(row.cycles);
-        rows.push(row).map_err(|_| Memory)?;
+        push_row(&mut rows, row)?;
     }
     Ok(rows)
 }
 
+// Adds the run with requests in two cycles, if the second is later.
+fn add_pair<W: Watcher>(
+    alloc: Global,
+    swept: &Swept,
+    first: u32,
+    second: u32,
+    progress: &mut Progress<W>,
+    rows: &mut Vec<Row>,
+) -> Result<(), Memory>
+    requires bytes { IsInput swept.now.input }
+    ensures rows { OnOk result (All (IsRowOf swept.now) rows.old.items → All (IsRowOf swept.now) rows.new.items) }
+    ensures pair { OnOk result
+        (map requests_of rows.new.items ≡ map requests_of rows.old.items ++ cond (ltb first second) ((first ∷ second ∷ []) ∷ []) []) }
+{
+    if first >= second {
+        return Ok(());
+    }
+    let row = row_of(alloc, swept, first, Some(second))?;
+    progress.add(row.cycles);
+    push_row(rows, row)?;
+    Ok(())
+}
+
+// Adds the runs with requests in one cycle and in each of these that is later.
+#[tactic(auto, using(crate::proofs::Paired::pair_step, crate::proofs::Paired::pair_start, crate::proofs::Paired::pair_end))]
+fn add_pairs<W: Watcher>(
+    alloc: Global,
+    swept: &Swept,
+    first: u32,
+    others: &[u32],
+    progress: &mut Progress<W>,
+    rows: &mut Vec<Row>,
+) -> Result<(), Memory>
+    requires bytes { IsInput swept.now.input }
+    ensures rows { OnOk result (All (IsRowOf swept.now) rows.old.items → All (IsRowOf swept.now) rows.new.items) }
+    ensures pairs { OnOk result (map requests_of rows.new.items ≡ map requests_of rows.old.items ++ pairs_with first others.now) }
+{
+    for second in others {
+        add_pair(alloc, swept, first, *second, progress, rows)?;
+    }
+    Ok(())
+}
+
 /// The runs of an image with requests in each two of some cycles of which the one behind is the greater; the rest as for
 /// `singles`.
+#[tactic(auto, using(crate::proofs::Paired::first_step, crate::proofs::Paired::first_end))]
 pub fn pairs<W: Watcher>(alloc: Global, swept: &Swept, watcher: W) -> Result<Vec<Row>, Memory>
     requires bytes { IsInput swept.now.input }
     ensures rows { IfOk result (λ rows. All (IsRowOf swept.now) rows.items) }
+    ensures pairs { IfOk result (λ rows. map requests_of rows.items ≡ rising_pairs swept.now.cycles.now) }
 {
     let mut progress = Progress::new(watcher);
     let mut rows = Vec::new(alloc);
     let cycles = swept.cycles;
     for at in 0..cycles.len() {
-        for behind in at + 1..cycles.len() {
-            let (first, second) = (cycles[at], cycles[behind]);
-            if first < second {
-                let second = Some(second);
-                let row = row_of(alloc, swept, first, second)?;
-                progress.add(row.cycles);
-                rows.push(row).map_err(|_| Memory)?;
-            }
-        }
+        let others = &cycles[at + 1..];
+        add_pairs(alloc, swept, cycles[at], others, &mut progress, &mut rows)?;
     }
     Ok(rows)
 }

@@ -9,16 +9,22 @@ pub returns-clause-cycles : goal.returns-clause-cycles
 returns-clause-cycles c =
     let image = c.args.image.now in
     let p : Program = program_of shipped image.code.items image.user_data.items (option_copied c.args.input) in
-    ap (λ (x : Counted). x.cycles) (c.in_ok-driven.ensures.counts p c.in_ok-machine.ensures)
+    ap (λ (x : Counted). x.cycles) (c.in_ok-run.ensures.counts p c.in_ok-machine.ensures)
 
 pub returns-clause-halted : goal.returns-clause-halted
 returns-clause-halted c =
     let image = c.args.image.now in
     let p : Program = program_of shipped image.code.items image.user_data.items (option_copied c.args.input) in
-    c.in_ok-driven.ensures.halted p c.in_ok-machine.ensures
+    c.in_ok-run.ensures.halted p c.in_ok-machine.ensures
 
 pub returns-clause-console : goal.returns-clause-console
 returns-clause-console c =
     let image = c.args.image.now in
     let p : Program = program_of shipped image.code.items image.user_data.items (option_copied c.args.input) in
-    c.in_ok-driven.ensures.console p c.in_ok-machine.ensures
+    c.in_ok-run.ensures.console p c.in_ok-machine.ensures
+
+pub returns-clause-entry : goal.returns-clause-entry
+returns-clause-entry c =
+    let image = c.args.image.now in
+    let p : Program = program_of shipped image.code.items image.user_data.items (option_copied c.args.input) in
+    c.in_ok-run.ensures.entry p c.in_ok-machine.ensures

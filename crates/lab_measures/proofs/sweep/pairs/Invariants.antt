@@ -1,12 +1,11 @@
-use Rattle.std.proofs.Common.{All}
-use Rattle.lab_measures.specs.Sweeps.{IsRowOf}
+use Rattle.std.proofs.Common.{◌≡◌, ◌++◌, All, drop, map}
+use Rattle.lab_measures.specs.Spans.{rising_pairs}
+use Rattle.lab_measures.specs.Sweeps.{IsRowOf, requests_of}
 use Rattle.lab_measures.proofs.sweep.pairs.Given as goal
 
--- each row so far tells its run
+-- the rows so far are those of the pairs with the first cycles
 abbrev pub invariant-loop-at : goal.invariant-loop-at
-invariant-loop-at g l =
-    All (IsRowOf l.swept) l.rows.items
-
-abbrev pub invariant-loop-behind : goal.invariant-loop-behind
-invariant-loop-behind g l =
-    All (IsRowOf l.swept) l.rows.items
+invariant-loop-at g l = record {
+  rows : All (IsRowOf l.swept) l.rows.items;
+  pairs : map requests_of l.rows.items ++ rising_pairs (drop l.at l.swept.cycles.now) ≡ rising_pairs l.swept.cycles.now;
+}

@@ -1,0 +1,14 @@
+use Rattle.std.proofs.Common.{sym, ◌∙◌}
+use Rattle.mx_report.proofs.Runs.{sent_quiet}
+use Rattle.lab_measures.specs.Entries.{signals_of}
+use Rattle.lab_measures.proofs.Noted.{quiet_cycles}
+use Rattle.lab_measures.proofs.Quiet.{none_asked}
+use Rattle.lab_measures.proofs.observed.NoterObserver.advance.Goals as goal
+
+pub returns-clause-saw : goal.returns-clause-saw
+returns-clause-saw g c = λ p reqs are s going saw.
+    let i = c.args._cycle in
+    let done = c.in_ok-done.done in (
+      sent_quiet p reqs i c.args.notes.now.console.items c.advance.new.console.items saw.0 done are (c.in_ok-done.ensures.console p _ s),
+      quiet_cycles (signals_of p reqs) i done c.args.notes.now.progress (sym c.is_open.ensures ∙ c.if-is_open.false) (none_asked reqs i done are) saw.1,
+    )
