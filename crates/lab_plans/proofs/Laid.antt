@@ -6,16 +6,13 @@ use Rattle.mx_blocks.specs.declared.Block.{Block}
 use Rattle.mx_blocks.specs.declared.Plan.{Plan}
 use Rattle.mx_layout.specs.declared.Layout.{Layout}
 use Rattle.mx_layout.specs.Kept.{AreKept}
-use Rattle.mx_layout.specs.Overlong.{overlong}
-use Rattle.mx_code.specs.NoOps.{noops_in}
-use Rattle.mx_link.specs.Origins.{copies_in}
 use Rattle.mx_link.specs.Laid.{IsLaidAt, IsLinkedFrom}
 use Rattle.mx_link.specs.Parts.{sites_of}
 use Rattle.mx_plans.specs.Files.{LineSaid, marks_of}
 use Rattle.mx_plans.specs.Says.{IsProposed}
 use Rattle.mx_plans.specs.Copies.{as_planned}
 use Rattle.mx_plans.specs.Ready.{IsReady}
-use Rattle.mx_plans.proofs.Laid.{laid_blocks}
+use Rattle.mx_plans.proofs.Laid.{laid_blocks, linked_from}
 use Rattle.mx_plans.proofs.Ready as on
 use Rattle.lab_plans.specs.Verdicts.{AreTold}
 use Rattle.lab_plans.specs.declared.linking.LinkedTold.{LinkedTold}
@@ -39,18 +36,6 @@ pub linked_told :
 linked_told source lines layout l laid kept from told =
     let proposals : layout.proposals.items ≡ l.linked.proposals.items = ap (λ p. p.items) (sym from.proposals) in
     record {
-      is = record {
-        sites = sites_of layout;
-        layout = laid.layout;
-        kept = subst (λ (n : ℕ). AreKept (IsProposed source (marks_of lines)) n (sites_of layout) l.linked.proposals.items) (sym from.rejected)
-            (subst (λ (plans : List Plan). AreKept (IsProposed source (marks_of lines)) layout.rejected (sites_of layout) plans) proposals kept);
-        reach = ap (overlong source board) (laid_blocks source board layout laid) ∙ laid.fits;
-        code = from.code;
-        user_data = from.user_data;
-        links = from.links;
-        origin = from.origin;
-        noops = from.noops ∙ ap noops_in from.code;
-        copies = from.copies ∙ ap copies_in from.origin;
-      };
+      is = linked_from (IsProposed source (marks_of lines)) (as_planned lines) source board layout l.linked laid kept from;
       told = subst (λ (plans : List Plan). AreTold source (sites_of layout) plans lines l.rejections.items) proposals told;
     }

@@ -22,7 +22,7 @@ use Rattle.mx_plans.specs.Copies.{choices_of, as_planned}
 pub laid_blocks : (source : SourceValue) (place : Place) (l : Layout) → IsLaidAt source place l → blocks_in (sites_of l) ≡ l.blocks.items
 laid_blocks source place l laid = blocks_in-sites l.blocks.items l.plans.items l.starts.items laid.plans laid.starts
 
-pub linked_from :
+abbrev pub linked_from :
     (P : Block → Plan → Type 0) (filling : Filling) (source : SourceValue) (place : Place) (layout : Layout) (l : Linked)
     → IsLaidAt source place layout → AreKept P layout.rejected (sites_of layout) layout.proposals.items
     → IsLinkedFrom filling source place layout l → IsLinked P filling source place l
