@@ -79,7 +79,7 @@ CHECKS = (
     Check("edges", ("edge.sh",), ("mx_run",)),
     Check("memory", ("memory.sh",), ("mx_run",), tools=("bash", "cc")),
     Check("soak", ("soak.py",), ("mx_run",)),
-    Check("latches", ("latches.py",)),
+    Check("latches", ("latches.py",), (), 30),
     Check("messages", ("messages.py",), ("mx_run", "mx_lab")),
     Check("package", ("package.py",), ("mx_run", "mx_lab"), tools=("dpkg-deb",)),
     Check("tutorial", ("tutorial.py",), PROGRAMS),
