@@ -1,5 +1,8 @@
 //! The words of the command line, by the table of commands.
-use crate::table::{COMMANDS, CommandRow, Names, OptionRow, Takes};
+use crate::table::{
+    CERTIFICATE_NAME, COMMANDS, CommandRow, FILE_NAME, IMAGE_NAME, LABEL_NAME, Names, OUTPUT,
+    OptionRow, PRINT, PRINT_NAME, SOURCE_NAME, Takes,
+};
 use clap::{Arg, ArgAction, ArgMatches, Command, value_parser};
 use std::alloc::{AllocError, Global};
 
@@ -19,14 +22,14 @@ fn first_arg<'a>(alloc: Global, names: Names) -> Arg<'a> {
     match names {
         Names::File => name_arg(
             alloc,
-            "FILE",
+            FILE_NAME,
             "the source, in assembly language, or the image file",
         ),
-        Names::Sources => name_arg(alloc, "SOURCE", SOURCE)
+        Names::Sources => name_arg(alloc, SOURCE_NAME, SOURCE)
             .num_args(1..)
             .action(ArgAction::Append),
         Names::Source | Names::Plans | Names::Certified | Names::Image | Names::Label => {
-            name_arg(alloc, "SOURCE", SOURCE)
+            name_arg(alloc, SOURCE_NAME, SOURCE)
         }
     }
 }
@@ -34,6 +37,26 @@ fn first_arg<'a>(alloc: Global, names: Names) -> Arg<'a> {
 // An option, before what it takes is said.
 fn bare_option<'a>(alloc: Global, row: &OptionRow) -> Arg<'a> {
     Arg::new(alloc, row.name).long(row.name).help(row.help)
+}
+
+// An option without a value.
+fn flag_option<'a>(alloc: Global, row: &OptionRow) -> Arg<'a> {
+    bare_option(alloc, row).action(ArgAction::SetTrue)
+}
+
+// An option that takes a file.
+fn file_option<'a>(alloc: Global, row: &OptionRow, is_needed: bool) -> Arg<'a> {
+    bare_option(alloc, row)
+        .value_name("FILE")
+        .action(ArgAction::Set)
+        .required(is_needed)
+}
+
+// An option that takes a name and a file, and may come several times.
+fn named_file_option<'a>(alloc: Global, row: &OptionRow) -> Arg<'a> {
+    bare_option(alloc, row)
+        .value_name("NAME=FILE")
+        .action(ArgAction::Append)
 }
 
 // An option that takes a number.
@@ -57,63 +80,56 @@ fn word_option<'a>(
         .value_parser(&*words)
 }
 
+// An option with a default, if it has one.
+fn with_default<'a>(arg: Arg<'a>, default: Option<&'static str>) -> Arg<'a> {
+    match default {
+        Some(text) => arg.default_value(text),
+        None => arg,
+    }
+}
+
+// The option of a row, before its default.
+fn option_without<'a>(alloc: Global, row: &OptionRow) -> Arg<'a> {
+    match row.takes {
+        Takes::Nothing => flag_option(alloc, row),
+        Takes::File => file_option(alloc, row, false),
+        Takes::NeededFile => file_option(alloc, row, true),
+        Takes::NamedFile => named_file_option(alloc, row),
+        Takes::Number { least, most, .. } => number_option(alloc, row, least, most),
+        Takes::Word { called, words, .. } => word_option(alloc, row, called, words),
+    }
+}
+
 // The option of a row.
 fn option_arg<'a>(alloc: Global, row: &OptionRow) -> Arg<'a> {
-    match row.takes {
-        Takes::Nothing => bare_option(alloc, row).action(ArgAction::SetTrue),
-        Takes::File => bare_option(alloc, row)
-            .value_name("FILE")
-            .action(ArgAction::Set),
-        Takes::NeededFile => bare_option(alloc, row)
-            .value_name("FILE")
-            .action(ArgAction::Set)
-            .required(true),
-        Takes::NamedFile => bare_option(alloc, row)
-            .value_name("NAME=FILE")
-            .action(ArgAction::Append),
-        Takes::Number {
-            default: Some(default),
-            least,
-            most,
-        } => number_option(alloc, row, least, most).default_value(default),
-        Takes::Number {
-            default: None,
-            least,
-            most,
-        } => number_option(alloc, row, least, most),
-        Takes::Word {
-            called,
-            words,
-            default,
-        } => word_option(alloc, row, called, words).default_value(default),
-    }
+    let default = match row.takes {
+        Takes::Number { default, .. } => default,
+        Takes::Word { default, .. } => Some(default),
+        Takes::Nothing | Takes::File | Takes::NeededFile | Takes::NamedFile => None,
+    };
+    with_default(option_without(alloc, row), default)
 }
 
 // The plan file, unless one is printed.
 fn plans_arg<'a>(alloc: Global) -> Result<Arg<'a>, AllocError> {
-    let bare = Arg::new(alloc, "FILE")
+    let bare = Arg::new(alloc, FILE_NAME)
         .action(ArgAction::Set)
         .help("the plans, a line for each block");
-    bare.required_unless_present("print")
+    bare.required_unless_present(PRINT_NAME)
 }
 
 // The flag that asks for a plan file.
 fn print_flag<'a>(alloc: Global) -> Result<Arg<'a>, AllocError> {
-    let bare = Arg::new(alloc, "print")
-        .long("print")
-        .action(ArgAction::SetTrue)
-        .help("prints the plans of the list scheduler");
-    bare.conflicts_with("FILE")
+    let bare = bare_option(alloc, &PRINT).action(ArgAction::SetTrue);
+    bare.conflicts_with(FILE_NAME)
 }
 
 // The file that a command's output goes to.
 fn output_option<'a>(alloc: Global) -> Arg<'a> {
-    Arg::new(alloc, "output")
+    bare_option(alloc, &OUTPUT)
         .short('o')
-        .long("output")
         .value_name("FILE")
         .action(ArgAction::Set)
-        .help("writes what is printed to a file")
 }
 
 // A command with one argument more, where there was memory for that.
@@ -124,20 +140,38 @@ fn with_arg<'a>(
     command.arg(arg?)
 }
 
-// A command with what stands behind it, before its options.
-fn named_command<'a>(alloc: Global, row: &CommandRow) -> Result<Command<'a>, AllocError> {
-    let bare = Command::new(alloc, row.name)
-        .about(row.about)
-        .arg(first_arg(alloc, row.names))?;
-    match row.names {
-        Names::Plans => with_arg(with_arg(bare, plans_arg(alloc))?, print_flag(alloc)),
-        Names::Certified => bare
-            .arg(name_arg(alloc, "IMAGE", "the image file"))?
-            .arg(name_arg(alloc, "CERTIFICATE", "the certificate")),
-        Names::Image => bare.arg(name_arg(alloc, "IMAGE", "the image file that is written")),
-        Names::Label => bare.arg(name_arg(alloc, "LABEL", "the label of an instruction")),
+// The arguments of `plans` after the source.
+fn with_plans<'a>(alloc: Global, bare: Command<'a>) -> Result<Command<'a>, AllocError> {
+    let named = with_arg(bare, plans_arg(alloc))?;
+    with_arg(named, print_flag(alloc))
+}
+
+// The arguments of `verify` after the source.
+fn with_certified<'a>(alloc: Global, bare: Command<'a>) -> Result<Command<'a>, AllocError> {
+    let named = bare.arg(name_arg(alloc, IMAGE_NAME, "the image file"))?;
+    named.arg(name_arg(alloc, CERTIFICATE_NAME, "the certificate"))
+}
+
+// The arguments after the first one.
+fn with_names<'a>(
+    alloc: Global,
+    bare: Command<'a>,
+    names: Names,
+) -> Result<Command<'a>, AllocError> {
+    match names {
+        Names::Plans => with_plans(alloc, bare),
+        Names::Certified => with_certified(alloc, bare),
+        Names::Image => bare.arg(name_arg(alloc, IMAGE_NAME, "the image file that is written")),
+        Names::Label => bare.arg(name_arg(alloc, LABEL_NAME, "the label of an instruction")),
         Names::Source | Names::Sources | Names::File => Ok(bare),
     }
+}
+
+// A command with its arguments, before its options.
+fn named_command<'a>(alloc: Global, row: &CommandRow) -> Result<Command<'a>, AllocError> {
+    let bare = Command::new(alloc, row.name).about(row.about);
+    let first = bare.arg(first_arg(alloc, row.names))?;
+    with_names(alloc, first, row.names)
 }
 
 // The command of a row.

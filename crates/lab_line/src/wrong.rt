@@ -1,22 +1,11 @@
 //! What is wrong with a command line that is refused, by the table of commands.
-use crate::table::{COMMANDS, CommandRow, Names, OptionRow, Takes};
+use crate::table::{
+    CERTIFICATE_NAME, COMMANDS, CommandRow, FILE_NAME, IMAGE_NAME, LABEL_NAME, Names, OUTPUT,
+    OptionRow, PRINT, SOURCE_NAME, Takes,
+};
 use lab_slips::nearest;
 use lab_writer::Writer;
 use std::alloc::{AllocError, Global};
-
-/// The option of each command that names the file for what is printed.
-const OUTPUT: OptionRow = OptionRow {
-    name: "output",
-    takes: Takes::File,
-    help: "",
-};
-
-/// The option of `plans` that asks for a plan file.
-const PRINT: OptionRow = OptionRow {
-    name: "print",
-    takes: Takes::Nothing,
-    help: "",
-};
 
 // What is wrong.
 #[derive(Clone, Copy)]
@@ -234,12 +223,12 @@ fn most_arguments(command: &CommandRow) -> usize {
 // The first argument of a command that is missing where there are so many.
 fn missing(command: &CommandRow, arguments: usize, is_printed: bool) -> Option<&'static str> {
     match (command.names, arguments) {
-        (Names::File, 0) => Some("FILE"),
-        (_, 0) => Some("SOURCE"),
-        (Names::Plans, 1) if !is_printed => Some("FILE"),
-        (Names::Certified | Names::Image, 1) => Some("IMAGE"),
-        (Names::Label, 1) => Some("LABEL"),
-        (Names::Certified, 2) => Some("CERTIFICATE"),
+        (Names::File, 0) => Some(FILE_NAME),
+        (_, 0) => Some(SOURCE_NAME),
+        (Names::Plans, 1) if !is_printed => Some(FILE_NAME),
+        (Names::Certified | Names::Image, 1) => Some(IMAGE_NAME),
+        (Names::Label, 1) => Some(LABEL_NAME),
+        (Names::Certified, 2) => Some(CERTIFICATE_NAME),
         _ => None,
     }
 }
