@@ -84,46 +84,25 @@ fn arg_of<'a>(alloc: Global, argument: ArgumentName) -> Result<Arg<'a>, AllocErr
     }
 }
 
-// A command with one argument more, where there was memory for that.
-fn with_arg<'a>(
-    command: Command<'a>,
-    arg: Result<Arg<'a>, AllocError>,
-) -> Result<Command<'a>, AllocError> {
-    command.arg(arg?)
-}
-
 // The command of a row.
 fn command_of<'a>(alloc: Global, row: &WordRow<CommandName>) -> Result<Command<'a>, AllocError> {
     let mut command = Command::new(alloc, row.word).about(row.means.about());
     for argument in row.means.arguments() {
-        command = with_arg(command, arg_of(alloc, *argument))?;
+        command = command.arg(arg_of(alloc, *argument)?)?;
     }
     Ok(command)
 }
 
-// The command line before its commands.
-fn bare_line<'a>(alloc: Global) -> Command<'a> {
-    Command::new(alloc, "mx_lab")
+// The whole command line.
+fn whole_line<'a>(alloc: Global) -> Result<Command<'a>, AllocError> {
+    let mut line = Command::new(alloc, "mx_lab")
         .about("Shows what a program for MIPS-X does, in pictures and tables.")
         .version("1.0")
         .subcommand_required(true)
         .arg_required_else_help(true)
-        .no_binary_name(true)
-}
-
-// A command line with one command more, where there was memory for that.
-fn with_command<'a>(
-    line: Command<'a>,
-    command: Result<Command<'a>, AllocError>,
-) -> Result<Command<'a>, AllocError> {
-    line.subcommand(command?)
-}
-
-// The whole command line.
-fn whole_line<'a>(alloc: Global) -> Result<Command<'a>, AllocError> {
-    let mut line = bare_line(alloc);
+        .no_binary_name(true);
     for row in commands() {
-        line = with_command(line, command_of(alloc, row))?;
+        line = line.subcommand(command_of(alloc, row)?)?;
     }
     Ok(line)
 }

@@ -4,25 +4,35 @@ use lab_slips::nearest;
 use lab_writer::Writer;
 use std::alloc::{AllocError, Global};
 
-// What is wrong.
+// What is wrong with a word, or with all of them.
 #[derive(Clone, Copy)]
-enum Wrong<'a> {
-    // There is no command, no option and no argument of this name.
-    Command(&'a str),
-    Option(&'a str),
-    Argument(&'a str),
+enum Fault {
+    // The word is the name of no command.
+    Command,
+    // It is no option of the command, or no argument that it takes.
+    Option,
+    Argument,
+    // It is an option that has no value.
+    NoValue(ArgumentName),
+    // It is a value that its option cannot have, or it holds such a value.
+    Value(ArgumentName),
+    HeldValue(ArgumentName),
+    // It is an option that takes no value.
+    Flag(ArgumentName),
+    // It is an option that comes twice.
+    Twice,
     // A positional argument or an option is missing.
     Missing(ArgumentName),
     MissingOption(ArgumentName),
-    // An option has no value, or this one, which it cannot have.
-    NoValue(ArgumentName),
-    Value(ArgumentName, &'a str),
-    // An option takes no value.
-    Flag(ArgumentName),
-    // An option comes twice.
-    Twice(&'a str),
     // A plan file is named and printed.
     PrintedFile,
+}
+
+// What is wrong, and the word that it is wrong with; no text, where it is none.
+#[derive(Clone, Copy)]
+struct Wrong<'a> {
+    fault: Fault,
+    word: &'a str,
 }
 
 // An option as it is given: its name without hyphens, and its value, where it is in the same word.
@@ -126,16 +136,16 @@ struct Walk {
 
 impl Walk {
     // Takes an option.
-    fn take_option<'a>(&mut self, word: &'a str, given: Given<'a>) -> Option<Wrong<'a>> {
+    fn take_option(&mut self, given: Given) -> Option<Fault> {
         let Some(option) = option_of(self.arguments, given.name) else {
-            return Some(Wrong::Option(word));
+            return Some(Fault::Option);
         };
         self.is_printed = self.is_printed || matches!(option, ArgumentName::PrintFlag);
         match (option.takes(), given.value) {
             (Takes::Nothing, None) => None,
-            (Takes::Nothing, Some(_)) => Some(Wrong::Flag(option)),
+            (Takes::Nothing, Some(_)) => Some(Fault::Flag(option)),
             (takes, Some(value)) if takes_value(takes, value) => None,
-            (_, Some(value)) => Some(Wrong::Value(option, value)),
+            (_, Some(_)) => Some(Fault::HeldValue(option)),
             (_, None) => {
                 self.pending = Some(option);
                 None
@@ -144,60 +154,60 @@ impl Walk {
     }
 
     // Takes a positional argument.
-    fn take_positional<'a>(&mut self, word: &'a str) -> Option<Wrong<'a>> {
+    fn take_positional(&mut self) -> Option<Fault> {
         if !takes_positional(self.arguments, self.positionals) {
-            return Some(Wrong::Argument(word));
+            return Some(Fault::Argument);
         }
         self.positionals = self.positionals.saturating_add(1);
         None
     }
 
     // Takes a word where an option or a positional argument may come.
-    fn take_any<'a>(&mut self, word: &'a str) -> Option<Wrong<'a>> {
+    fn take_any(&mut self, word: &str) -> Option<Fault> {
         if self.has_options && word == "--" {
             self.has_options = false;
             return None;
         }
         match option_in(word) {
-            Some(given) if self.has_options => self.take_option(word, given),
-            _ => self.take_positional(word),
+            Some(given) if self.has_options => self.take_option(given),
+            _ => self.take_positional(),
         }
     }
 
     // Takes the next word.
-    fn take<'a>(&mut self, word: &'a str) -> Option<Wrong<'a>> {
+    fn take(&mut self, word: &str) -> Option<Fault> {
         match self.pending {
             Some(option) => {
                 self.pending = None;
-                wrong_value(option, word)
+                value_fault(option, word)
             }
             None => self.take_any(word),
         }
     }
 
     // What is wrong once all words were taken.
-    fn ends<'a>(&self) -> Option<Wrong<'a>> {
+    fn ends(&self) -> Option<Fault> {
         match (
             self.pending,
             positional_at(self.arguments, self.positionals),
         ) {
-            (Some(option), _) => Some(Wrong::NoValue(option)),
+            (Some(option), _) => Some(Fault::NoValue(option)),
             (None, Some(ArgumentName::PlansFile)) if self.is_printed => None,
-            (None, Some(argument)) => Some(Wrong::Missing(argument)),
-            (None, None) if self.is_printed => Some(Wrong::PrintedFile),
+            (None, Some(argument)) => Some(Fault::Missing(argument)),
+            (None, None) if self.is_printed => Some(Fault::PrintedFile),
             (None, None) => None,
         }
     }
 }
 
 // What is wrong with the word after an option.
-fn wrong_value<'a>(option: ArgumentName, word: &'a str) -> Option<Wrong<'a>> {
+fn value_fault(option: ArgumentName, word: &str) -> Option<Fault> {
     let takes = option.takes();
     let is_number = matches!(takes, Takes::Number { .. });
     match option_in(word) {
-        Some(given) if !is_number || !given.name.is_empty() => Some(Wrong::NoValue(option)),
+        Some(given) if !is_number || !given.name.is_empty() => Some(Fault::NoValue(option)),
         _ if takes_value(takes, word) => None,
-        _ => Some(Wrong::Value(option, word)),
+        _ => Some(Fault::Value(option)),
     }
 }
 
@@ -216,14 +226,14 @@ fn takes_positional(arguments: &[ArgumentName], at: usize) -> bool {
 }
 
 // The first option that comes again, and may not.
-fn repeated<'a>(arguments: &[ArgumentName], words: &'a [String]) -> Option<Wrong<'a>> {
+fn repeated<'a>(arguments: &[ArgumentName], words: &'a [String]) -> Option<&'a str> {
     let mut rest = words;
     for _ in 0..words.len() {
         let [first, others @ ..] = rest else {
             return None;
         };
         if is_repeated(arguments, first.as_str(), others) {
-            return Some(Wrong::Twice(first.as_str()));
+            return Some(first.as_str());
         }
         rest = others;
     }
@@ -240,19 +250,10 @@ fn may_repeat(arguments: &[ArgumentName], name: &str) -> bool {
 
 // A word is an option that comes again among others, and may not.
 fn is_repeated(arguments: &[ArgumentName], word: &str, others: &[String]) -> bool {
-    let Some(given) = option_in(word) else {
-        return false;
-    };
-    if may_repeat(arguments, given.name) {
-        return false;
+    match option_in(word) {
+        Some(given) => !may_repeat(arguments, given.name) && is_named(given.name, others),
+        None => false,
     }
-    for other in others {
-        match option_in(other.as_str()) {
-            Some(again) if again.name == given.name => return true,
-            _ => {}
-        }
-    }
-    false
 }
 
 // What is wrong with the words after a command that may have these arguments.
@@ -265,22 +266,33 @@ fn wrong_after<'a>(arguments: &'static [ArgumentName], words: &'a [String]) -> O
         is_printed: false,
     };
     for word in words {
-        let wrong = walk.take(word.as_str());
-        if wrong.is_some() {
-            return wrong;
+        if let Some(fault) = walk.take(word.as_str()) {
+            return Some(Wrong {
+                fault,
+                word: word.as_str(),
+            });
         }
     }
     match walk.ends() {
+        Some(fault) => Some(Wrong { fault, word: "" }),
         None => wrong_options(arguments, words),
-        wrong => wrong,
     }
 }
 
 // The first option that comes again, or else the one that has to be there and is not.
 fn wrong_options<'a>(arguments: &[ArgumentName], words: &'a [String]) -> Option<Wrong<'a>> {
-    match (repeated(arguments, words), left_out(arguments, words)) {
-        (None, Some(option)) => Some(Wrong::MissingOption(option)),
-        (wrong, _) => wrong,
+    if let Some(word) = repeated(arguments, words) {
+        return Some(Wrong {
+            fault: Fault::Twice,
+            word,
+        });
+    }
+    match left_out(arguments, words) {
+        Some(option) => Some(Wrong {
+            fault: Fault::MissingOption(option),
+            word: "",
+        }),
+        None => None,
     }
 }
 
@@ -319,9 +331,18 @@ fn wrong_in<'a>(words: &'a [String]) -> Option<Wrong<'a>> {
 // What is wrong with a word in the place of a command, and the words after it.
 fn unknown<'a>(name: &'a str, rest: &'a [String]) -> Wrong<'a> {
     match rest {
-        [asked, ..] if name == "help" => Wrong::Command(asked.as_str()),
-        _ if name.starts_with("-") => Wrong::Argument(name),
-        _ => Wrong::Command(name),
+        [asked, ..] if name == "help" => Wrong {
+            fault: Fault::Command,
+            word: asked.as_str(),
+        },
+        _ if name.starts_with("-") => Wrong {
+            fault: Fault::Argument,
+            word: name,
+        },
+        _ => Wrong {
+            fault: Fault::Command,
+            word: name,
+        },
     }
 }
 
@@ -396,20 +417,37 @@ fn push_missing(text: &mut Writer, missing: &'static str, option: ArgumentName) 
     push_expected(text, option.takes());
 }
 
+// The value in a word that holds one.
+fn value_in<'a>(word: &'a str) -> &'a str {
+    match option_in(word) {
+        Some(
+            Given {
+                value: Some(value),
+                ..
+            },
+        ) => value,
+        _ => "",
+    }
+}
+
+// Appends what is wrong with a word.
+fn push_word(text: &mut Writer, what: &'static str, word: &str) {
+    text.push_parts(&[what, " '", word, "'"]);
+}
+
 // Appends what is wrong.
 fn push_wrong(text: &mut Writer, wrong: Wrong) {
-    match wrong {
-        Wrong::Command(name) => text.push_parts(&["unknown command '", name, "'"]),
-        Wrong::Option(word) | Wrong::Argument(word) => {
-            text.push_parts(&["unexpected argument '", word, "'"]);
-        }
-        Wrong::Missing(argument) => text.push_parts(&["missing argument ", argument.name()]),
-        Wrong::MissingOption(option) => push_missing(text, "missing option '--", option),
-        Wrong::NoValue(option) => push_missing(text, "missing value for '--", option),
-        Wrong::Value(option, value) => push_value(text, option, value),
-        Wrong::Flag(option) => text.push_parts(&["'--", option.name(), "' takes no value"]),
-        Wrong::Twice(word) => text.push_parts(&["repeated option '", word, "'"]),
-        Wrong::PrintedFile => text.push_str("unexpected argument FILE: '--print' writes one"),
+    match wrong.fault {
+        Fault::Command => push_word(text, "unknown command", wrong.word),
+        Fault::Option | Fault::Argument => push_word(text, "unexpected argument", wrong.word),
+        Fault::Twice => push_word(text, "repeated option", wrong.word),
+        Fault::Value(option) => push_value(text, option, wrong.word),
+        Fault::HeldValue(option) => push_value(text, option, value_in(wrong.word)),
+        Fault::NoValue(option) => push_missing(text, "missing value for '--", option),
+        Fault::MissingOption(option) => push_missing(text, "missing option '--", option),
+        Fault::Missing(argument) => text.push_parts(&["missing argument ", argument.name()]),
+        Fault::Flag(option) => text.push_parts(&["'--", option.name(), "' takes no value"]),
+        Fault::PrintedFile => text.push_str("unexpected argument FILE: '--print' writes one"),
     }
 }
 
@@ -461,10 +499,11 @@ fn meant(
     command: Option<CommandName>,
     wrong: Wrong,
 ) -> Result<Option<&'static str>, AllocError> {
-    match (wrong, command) {
-        (Wrong::Command(name), _) => command_like(alloc, name),
-        (Wrong::Option(word), Some(command)) => option_like(alloc, command, word),
-        (Wrong::Value(option, value), _) => word_like(alloc, option.takes(), value),
+    match (wrong.fault, command) {
+        (Fault::Command, _) => command_like(alloc, wrong.word),
+        (Fault::Option, Some(command)) => option_like(alloc, command, wrong.word),
+        (Fault::Value(option), _) => word_like(alloc, option.takes(), wrong.word),
+        (Fault::HeldValue(option), _) => word_like(alloc, option.takes(), value_in(wrong.word)),
         _ => Ok(None),
     }
 }
@@ -478,9 +517,9 @@ fn word_like(alloc: Global, takes: Takes, value: &str) -> Result<Option<&'static
 }
 
 // The hyphens of what may have been meant.
-fn hyphens_of(wrong: Wrong) -> &'static str {
-    match wrong {
-        Wrong::Option(_) => "--",
+fn hyphens_of(fault: Fault) -> &'static str {
+    match fault {
+        Fault::Option => "--",
         _ => "",
     }
 }
@@ -488,7 +527,7 @@ fn hyphens_of(wrong: Wrong) -> &'static str {
 // Appends what may have been meant, where something is near.
 fn push_meant(text: &mut Writer, command: Option<CommandName>, wrong: Wrong) {
     if let Some(Some(name)) = text.take(meant(text.alloc(), command, wrong)) {
-        text.push_parts(&["; did you mean '", hyphens_of(wrong), name, "'?"]);
+        text.push_parts(&["; did you mean '", hyphens_of(wrong.fault), name, "'?"]);
     }
 }
 
