@@ -2,14 +2,14 @@
 ghost use Rattle.std.specs.Prelude.{◌≤◌, length};
 ghost use Rattle.mx_io.specs.declared.limits.TheConstants.{MAX_SOURCE_BYTES};
 
-use crate::compare::named_failure;
-use cmd_answer::{Failure, FileKind, Reply, Status, read_file};
+use cmd_answer::{Reply, Status};
 use lab_check::{
     Checked, CheckedModules, Finding, Form, MOST_LINES, MOST_MODULES, check, check_modules,
     findings_text,
 };
-use lab_line::{Asked, file_by};
-use lab_runs::{or_memory, printed, refused};
+use lab_failure::{LabFailure, LabFile, read_lab_file};
+use lab_options::{ArgumentFault, CheckForm, CheckOptions};
+use lab_runs::{or_memory, printed};
 use mx_io::{Memory, Shelf};
 use std::alloc::{AllocError, Global};
 
@@ -132,39 +132,37 @@ fn status_of(sums: Sums) -> Status {
     }
 }
 
-// How many findings the words ask for.
-fn most_given(asked: &Asked) -> usize
+// How many findings the options ask for.
+fn most_given(options: &CheckOptions) -> usize
     ensures { result ≤ MAX_SOURCE_BYTES }
 {
-    if asked.flag("all") {
+    if options.is_all {
         MOST_LINES
     } else {
         MOST_SHOWN
     }
 }
 
-// The form that the words ask for.
-fn form_given(asked: &Asked) -> Form {
-    if asked.word("as") == "json" {
-        Form::Json
-    } else if asked.word("colour") == "always" {
-        Form::Coloured
-    } else {
-        Form::Text
+// The form that the options ask for.
+fn form_given(options: &CheckOptions) -> Form {
+    match options.form {
+        CheckForm::Text => Form::Text,
+        CheckForm::Coloured => Form::Coloured,
+        CheckForm::Json => Form::Json,
     }
 }
 
-// The reply that tells what is wrong with a text.
-fn text_reply(asked: &Asked, text: &[u8]) -> Result<Reply, Failure>
+// The reply that tells what is wrong with the text of a file of this name.
+fn text_reply<'w>(
+    alloc: Global,
+    options: &CheckOptions,
+    name: &str,
+    text: &[u8],
+) -> Result<Reply, LabFailure<'w>>
     requires { length text.now ≤ MAX_SOURCE_BYTES }
 {
-    let checked = check(asked.alloc, text, most_given(asked))?;
-    let said = report(
-        asked.alloc,
-        asked.word("SOURCE"),
-        &checked,
-        form_given(asked),
-    );
+    let checked = check(alloc, text, most_given(options))?;
+    let said = report(alloc, name, &checked, form_given(options));
     printed(status_of(sums_of(&checked)), or_memory(said))
 }
 
@@ -200,20 +198,14 @@ fn modules_report(
 }
 
 // The texts of modules, whose files are read in order.
-fn read_modules<S: Shelf>(
+fn read_modules<'w, S: Shelf>(
     alloc: Global,
     shelf: &mut S,
-    names: &[&str],
-) -> Result<Vec<Vec<u8>>, Failure> {
+    names: &[&'w str],
+) -> Result<Vec<Vec<u8>>, LabFailure<'w>> {
     let mut texts = Vec::new(alloc);
     for name in names {
-        let text = match read_file(alloc, shelf, FileKind::Source, file_by(*name)) {
-            Ok(text) => text,
-            Err(failure) => return Err(named_failure(alloc, *name, false, failure)),
-        };
-        if texts.push(text).is_err() {
-            return Err(Failure::Memory);
-        }
+        texts.push(read_lab_file(alloc, shelf, LabFile::Source, *name)?)?;
     }
     Ok(texts)
 }
@@ -233,42 +225,54 @@ fn slices_of(alloc: Global, texts: &[Vec<u8>]) -> Result<Option<Vec<&[u8]>>, All
     })
 }
 
-// The reply where there are too many modules, or too long ones.
-fn refuse_many(alloc: Global, said: &str) -> Failure {
-    refused(alloc, Status::Usage, String::from_str(alloc, said))
-}
-
-// The reply that tells what is wrong with modules of these names and texts.
-fn texts_reply(asked: &Asked, names: &[&str], texts: &[&[u8]]) -> Result<Reply, Failure> {
+// The reply that tells what is wrong with modules of these texts.
+fn texts_reply<'w>(
+    alloc: Global,
+    options: &CheckOptions,
+    names: &[&str],
+    texts: &[&[u8]],
+) -> Result<Reply, LabFailure<'w>> {
     if texts.is_empty() || texts.len() > MOST_MODULES {
-        return Err(refuse_many(asked.alloc, "a program has at most 16 modules"));
+        return Err(LabFailure::Arguments(ArgumentFault::TooManyModules));
     }
-    let checked = check_modules(asked.alloc, texts, most_given(asked))?;
-    let said = modules_report(asked.alloc, names, &checked, form_given(asked));
+    let checked = check_modules(alloc, texts, most_given(options))?;
+    let said = modules_report(alloc, names, &checked, form_given(options));
     printed(status_of(module_sums(&checked)), or_memory(said))
 }
 
 // The reply that tells what is wrong with modules of these names.
-fn modules_reply<S: Shelf>(asked: &Asked, shelf: &mut S, names: &[&str]) -> Result<Reply, Failure> {
-    let texts = read_modules(asked.alloc, shelf, names)?;
-    match slices_of(asked.alloc, &texts) {
-        Ok(Some(slices)) => texts_reply(asked, names, &slices),
-        Ok(None) => Err(refuse_many(asked.alloc, "modules have at most 4,000,000 bytes together")),
-        Err(_) => Err(Failure::Memory),
+fn modules_reply<'w, S: Shelf>(
+    alloc: Global,
+    options: &CheckOptions,
+    shelf: &mut S,
+    names: &[&'w str],
+) -> Result<Reply, LabFailure<'w>> {
+    let texts = read_modules(alloc, shelf, names)?;
+    match slices_of(alloc, &texts)? {
+        Some(slices) => texts_reply(alloc, options, names, &slices),
+        None => Err(LabFailure::Arguments(ArgumentFault::TooLongModules)),
     }
 }
 
-// The reply that tells what is wrong with a source.
-fn source_reply<S: Shelf>(asked: &Asked, shelf: &mut S) -> Result<Reply, Failure> {
-    let name = asked.file("SOURCE");
-    let text = read_file(asked.alloc, shelf, FileKind::Source, name)?;
-    text_reply(asked, &text)
+// The reply that tells what is wrong with the source of this name.
+fn source_reply<'w, S: Shelf>(
+    alloc: Global,
+    options: &CheckOptions,
+    shelf: &mut S,
+    name: &'w str,
+) -> Result<Reply, LabFailure<'w>> {
+    let text = read_lab_file(alloc, shelf, LabFile::Source, name)?;
+    text_reply(alloc, options, name, &text)
 }
 
 /// The reply to `check SOURCE ..`: several sources are the modules of one program.
-pub fn check_reply<S: Shelf>(asked: &Asked, shelf: &mut S) -> Result<Reply, Failure> {
-    match asked.matches.get_strs("SOURCE").unwrap_or(&[]) {
-        [_] => source_reply(asked, shelf),
-        names => modules_reply(asked, shelf, names),
+pub fn check_reply<'w, S: Shelf>(
+    alloc: Global,
+    options: &CheckOptions<'_, 'w>,
+    shelf: &mut S,
+) -> Result<Reply, LabFailure<'w>> {
+    match options.sources.unwrap_or(&[]) {
+        [name] => source_reply(alloc, options, shelf, *name),
+        names => modules_reply(alloc, options, shelf, names),
     }
 }

@@ -13,6 +13,6 @@ mod refusal;
 mod top;
 
 pub use cmd_answer::Status;
-pub use lab_line::{Cause, Causes, Unknown};
-pub use lab_output::Ended;
+pub use lab_failure::{Cause, Causes, Unknown};
+pub use lab_output::ExitReport;
 pub use top::lab;

@@ -2,11 +2,11 @@
 ghost use Rattle.std.specs.Prelude.{◌≤◌, length};
 ghost use Rattle.mx_io.specs.declared.limits.TheConstants.{MAX_FILE_BYTES};
 
-use cmd_answer::{Failure, Status};
-use lab_line::Asked;
+use lab_failure::LabFailure;
+use lab_options::ArgumentFault;
 use lab_measures::Conditions;
 use lab_plans::{PlannedFigures, figures_by_plans};
-use lab_runs::{plans_of, refused, unlinked};
+use lab_runs::{plans_of, unlinked};
 use lab_tables::Column;
 use lab_watch::Watcher;
 use mx_io::Shelf;
@@ -41,11 +41,6 @@ pub(crate) struct OwnFigures<'a> {
     planned: PlannedFigures,
 }
 
-// The words are refused by a line.
-fn refuse(alloc: Global, line: Result<String, AllocError>) -> Failure {
-    refused(alloc, Status::Usage, line)
-}
-
 // Whether a byte may stand in a name.
 fn is_of_name(byte: u8) -> bool {
     byte.is_ascii_alphanumeric() || byte == b'_' || byte == b'-' || byte == b'.'
@@ -69,141 +64,109 @@ fn parts_of<'a>(word: &'a str) -> Option<NamedFile<'a>> {
     }
 }
 
-// The name and the file of a word, or the reply where it has not both.
-fn named_file<'a>(alloc: Global, word: &'a str) -> Result<NamedFile<'a>, Failure> {
-    match parts_of(word) {
-        Some(named) => Ok(named),
-        None => Err(refuse(
-            alloc,
-            format!(in alloc;
-                "invalid value '{word}' for '--plans': expected NAME=FILE, with a name of 1 to 16 letters, digits, '_', '-' or '.'"
-            ),
-        )),
-    }
-}
-
 // A name may not be that of a scheduler, nor one that is given before.
-fn refuse_name(alloc: Global, files: &[NamedFile], name: &str) -> Result<(), Failure> {
+fn refuse_name<'w>(files: &[NamedFile], name: &'w str) -> Result<(), ArgumentFault<'w>> {
     if TAKEN.iter().any(|taken| *taken == name) {
-        let line = format!(in alloc;
-            "'{name}' is a column of 'compare': '--plans' needs another name"
-        );
-        return Err(refuse(alloc, line));
+        return Err(ArgumentFault::ColumnTaken(name));
     }
     if files.iter().any(|given| given.name == name) {
-        let line = format!(in alloc;
-            "'{name}' names two plan files: each '--plans' needs a name of its own"
-        );
-        return Err(refuse(alloc, line));
+        return Err(ArgumentFault::ColumnTwice(name));
     }
     Ok(())
 }
 
-// Adds the file that a word names.
-fn add_file<'a>(
-    alloc: Global,
-    word: &'a str,
-    files: &mut Vec<NamedFile<'a>>,
-) -> Result<(), Failure> {
-    let named = named_file(alloc, word)?;
-    refuse_name(alloc, files.as_slice(), named.name)?;
-    match files.push(named) {
-        Ok(()) => Ok(()),
-        Err(_) => Err(Failure::Memory),
+// The file of a column, which comes after these.
+fn named_file<'w>(
+    files: &[NamedFile<'w>],
+    word: &'w str,
+) -> Result<NamedFile<'w>, ArgumentFault<'w>> {
+    let Some(named) = parts_of(word) else {
+        return Err(ArgumentFault::ColumnWord(word));
+    };
+    refuse_name(files, named.name)?;
+    Ok(named)
+}
+
+// Adds the file of a column.
+fn add_file<'w>(word: &'w str, files: &mut Vec<NamedFile<'w>>) -> Result<(), LabFailure<'w>> {
+    match named_file(files.as_slice(), word) {
+        Ok(named) => Ok(files.push(named)?),
+        Err(fault) => Err(LabFailure::Arguments(fault)),
     }
 }
 
-/// The plan files that the words name, or the reply to the first word that is wrong. A plan file is that of one source.
+/// The plan files of columns, beside so many sources, or what is wrong with the first that is wrong. A plan file is that of one
+/// source.
 pub(crate) fn named_files<'w>(
-    asked: &Asked<'_, 'w>,
+    alloc: Global,
+    columns: &[&'w str],
     sources: usize,
-) -> Result<Vec<NamedFile<'w>>, Failure> {
-    let alloc = asked.alloc;
+) -> Result<Vec<NamedFile<'w>>, LabFailure<'w>> {
     let mut files = Vec::new(alloc);
-    for word in asked.matches.get_strs("plans").unwrap_or(&[]) {
-        add_file(alloc, *word, &mut files)?;
+    for word in columns {
+        add_file(*word, &mut files)?;
     }
     if sources > 1 && !files.is_empty() {
-        let line = format!(in alloc;
-            "a plan file is that of one source, and {sources} are given: compare each by itself"
-        );
-        return Err(refuse(alloc, line));
+        let fault = ArgumentFault::ColumnsOfSeveral(sources);
+        return Err(LabFailure::Arguments(fault));
     }
     Ok(files)
 }
 
-// Adds the plans of a file for a source.
-fn add_plans<'w, S: Shelf>(
-    alloc: Global,
-    shelf: &mut S,
-    source: &Source,
-    file: NamedFile<'w>,
-    plans: &mut Vec<OwnPlans<'w>>,
-) -> Result<(), Failure> {
-    let lines = plans_of(alloc, shelf, source, file.file)?;
-    let name = file.name;
-    match plans.push(OwnPlans { name, lines }) {
-        Ok(()) => Ok(()),
-        Err(_) => Err(Failure::Memory),
-    }
-}
-
-/// The plans of files for a source, or the reply to the first file that is wrong.
+/// The plans of files for a source, or what is wrong with the first that is wrong.
 pub(crate) fn read_own<'w, S: Shelf>(
     alloc: Global,
     shelf: &mut S,
     source: &Source,
     files: &[NamedFile<'w>],
-) -> Result<Vec<OwnPlans<'w>>, Failure> {
+) -> Result<Vec<OwnPlans<'w>>, LabFailure<'w>> {
     let mut plans = Vec::new(alloc);
-    for file in files {
-        add_plans(alloc, shelf, source, *file, &mut plans)?;
+    for named in files {
+        let lines = plans_of(alloc, shelf, source, named.file)?;
+        plans.push(OwnPlans {
+            name: named.name,
+            lines,
+        })?;
     }
     Ok(plans)
 }
 
-// What plans of a source come to, or the reply where it is not linked.
-fn figures_of<W: Watcher>(
+// What plans come to for the source of this name.
+fn figures_of<'w, W: Watcher>(
     alloc: Global,
+    name: &'w str,
     source: &Source,
     lines: &[PlanLine],
     conditions: &Conditions,
     watcher: W,
-) -> Result<PlannedFigures, Failure>
+) -> Result<PlannedFigures, LabFailure<'w>>
     requires { length conditions.now.input.now ≤ MAX_FILE_BYTES }
 {
     match figures_by_plans(alloc, source, lines, conditions, watcher) {
         Ok(planned) => Ok(planned),
-        Err(error) => Err(unlinked(alloc, &error)),
+        Err(error) => Err(unlinked(name, error)),
     }
 }
 
-// Adds what plans come to, by their name.
-fn add_figures<'w>(
-    name: &'w str,
-    planned: PlannedFigures,
-    figures: &mut Vec<OwnFigures<'w>>,
-) -> Result<(), Failure> {
-    match figures.push(OwnFigures { name, planned }) {
-        Ok(()) => Ok(()),
-        Err(_) => Err(Failure::Memory),
-    }
-}
-
-/// What the plans of files come to for a source, under what is given to its run.
+/// What the plans of files come to for the source of this name, under what is given to its run.
 pub(crate) fn measure_own<'w, W: Watcher>(
     alloc: Global,
+    source_name: &'w str,
     source: &Source,
     plans: &[OwnPlans<'w>],
     conditions: &Conditions,
     watcher: W,
-) -> Result<Vec<OwnFigures<'w>>, Failure>
+) -> Result<Vec<OwnFigures<'w>>, LabFailure<'w>>
     requires { length conditions.now.input.now ≤ MAX_FILE_BYTES }
 {
     let mut figures = Vec::new(alloc);
     for own in plans {
-        let planned = figures_of(alloc, source, own.lines.as_slice(), conditions, watcher)?;
-        add_figures(own.name, planned, &mut figures)?;
+        let lines = own.lines.as_slice();
+        let planned = figures_of(alloc, source_name, source, lines, conditions, watcher)?;
+        figures.push(OwnFigures {
+            name: own.name,
+            planned,
+        })?;
     }
     Ok(figures)
 }

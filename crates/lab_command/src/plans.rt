@@ -1,9 +1,9 @@
 //! The reply of `plans`.
-use cmd_answer::{Failure, Reply, Status};
-use cmd_source::read_source;
-use lab_line::Asked;
+use cmd_answer::{Reply, Status};
+use lab_failure::LabFailure;
+use lab_options::PlansOptions;
 use lab_plans::planned_reply;
-use lab_runs::{Stimulus, plans_of, printed, read_stimulus, unlinked};
+use lab_runs::{Stimulus, plans_of, printed, read_source, read_stimulus, unlinked};
 use lab_watch::Watcher;
 use mx_io::Shelf;
 use mx_plans::{PlanLine, print_plans};
@@ -11,55 +11,47 @@ use mx_source::Source;
 use std::alloc::Global;
 
 // The reply that runs a source by plans.
-fn run_by_plans<W: Watcher>(
+fn run_by_plans<'w, W: Watcher>(
     alloc: Global,
+    options: &PlansOptions<'w>,
     source: &Source,
     plans: &[PlanLine],
     stimulus: &Stimulus,
-    budget: u32,
     watcher: W,
-) -> Result<Reply, Failure> {
+) -> Result<Reply, LabFailure<'w>> {
     let requests = &stimulus.requests;
     let input = stimulus.input.as_slice();
+    let budget = options.budget;
     match planned_reply(alloc, source, plans, requests, input, budget, watcher) {
         Ok(reply) => Ok(reply),
-        Err(error) => Err(unlinked(alloc, &error)),
+        Err(error) => Err(unlinked(options.source, error)),
     }
 }
 
-// The same with what the words give its run.
-fn run_given<S: Shelf, W: Watcher>(
-    asked: &Asked,
+// The reply that runs a source by the plans of the file of this name.
+fn run_by_file<'w, S: Shelf, W: Watcher>(
+    alloc: Global,
+    options: &PlansOptions<'w>,
     shelf: &mut S,
     source: &Source,
-    plans: &[PlanLine],
+    file: &'w str,
     watcher: W,
-) -> Result<Reply, Failure> {
-    let stimulus = read_stimulus(asked, shelf)?;
-    let budget = asked.number("budget");
-    run_by_plans(asked.alloc, source, plans, &stimulus, budget, watcher)
-}
-
-// The reply that runs a source by the plans of a file, or prints them.
-fn source_reply<S: Shelf, W: Watcher>(
-    asked: &Asked,
-    shelf: &mut S,
-    source: &Source,
-    watcher: W,
-) -> Result<Reply, Failure> {
-    if asked.flag("print") {
-        return printed(Status::Done, print_plans(asked.alloc, source));
-    }
-    let plans = plans_of(asked.alloc, shelf, source, asked.word("FILE"))?;
-    run_given(asked, shelf, source, plans.as_slice(), watcher)
+) -> Result<Reply, LabFailure<'w>> {
+    let plans = plans_of(alloc, shelf, source, file)?;
+    let stimulus = read_stimulus(alloc, shelf, options.stimulus)?;
+    run_by_plans(alloc, options, source, plans.as_slice(), &stimulus, watcher)
 }
 
 /// The reply to `plans SOURCE FILE`, or to `plans SOURCE --print`.
-pub fn plans_reply<S: Shelf, W: Watcher>(
-    asked: &Asked,
+pub fn plans_reply<'w, S: Shelf, W: Watcher>(
+    alloc: Global,
+    options: &PlansOptions<'w>,
     shelf: &mut S,
     watcher: W,
-) -> Result<Reply, Failure> {
-    let source = read_source(asked.alloc, shelf, asked.file("SOURCE"))?;
-    source_reply(asked, shelf, &source, watcher)
+) -> Result<Reply, LabFailure<'w>> {
+    let source = read_source(alloc, shelf, options.source)?;
+    match options.plans {
+        Some(file) => run_by_file(alloc, options, shelf, &source, file, watcher),
+        None => printed(Status::Done, print_plans(alloc, &source)),
+    }
 }

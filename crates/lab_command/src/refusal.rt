@@ -4,8 +4,8 @@ ghost use Rattle.mx_io.specs.declared.limits.TheConstants.{MAX_SOURCE_BYTES};
 
 use crate::check::errors_text;
 use crate::disassemble::MAGIC;
-use cmd_answer::{Failure, FileKind, read_file};
-use lab_line::{Causes, file_by};
+use lab_failure::{Causes, LabFailure, LabFile, read_lab_file};
+use lab_options::file_by;
 use lab_writer::Writer;
 use mx_io::{Memory, Shelf};
 use std::alloc::{AllocError, Global};
@@ -41,13 +41,12 @@ pub fn refusal_text<S: Shelf, C: Causes>(
     name: &str,
     causes: C,
 ) -> Result<Option<Vec<u8>>, Memory> {
-    let file = file_by(name);
-    if !causes.is_kept(file) {
+    if !causes.is_kept(file_by(name)) {
         return Ok(None);
     }
-    match read_file(alloc, shelf, FileKind::Source, file) {
+    match read_lab_file(alloc, shelf, LabFile::Source, name) {
         Ok(text) => text_of(alloc, causes.caller(), name, &text),
-        Err(Failure::Answered(_)) => Ok(None),
-        Err(Failure::Memory) => Err(Memory),
+        Err(LabFailure::Memory) => Err(Memory),
+        Err(_) => Ok(None),
     }
 }

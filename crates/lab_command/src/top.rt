@@ -8,280 +8,248 @@ use crate::plans::plans_reply;
 use crate::refusal::refusal_text;
 use clap::error::ErrorKind;
 use clap::{ArgMatches, Error};
-use cmd_answer::{Failure, Reply, Status, replied};
-use lab_line::{
-    Asked, Causes, Command, command_named, error_text, parse_words, refused_name, unwritten_text,
-    usage_text,
+use cmd_answer::{Reply, Status};
+use lab_failure::{Causes, LabFailure, failure_text, unwritten_text};
+use lab_line::{CommandLine, command_line, parse_words, usage_text};
+use lab_options::LabCommand;
+use lab_output::{Delivery, Destination, ExitReport, failed, put_out};
+use lab_runs::{
+    build_reply, caches_reply, debug_reply, draw_reply, explain_reply, interrupts_reply,
+    profile_reply, trace_reply,
 };
-use lab_output::{Answer, Destination, Ended, failed, is_error, put_out};
-use lab_runs::{build_reply, debug_reply, run_reply};
 use lab_watch::Watcher;
 use mx_io::{Memory, Shelf, Sink};
 use std::alloc::{AllocError, Global};
 
-// The status of words that ask for no command: those that ask for help or the version are answered by it.
-fn status_of(kind: ErrorKind) -> Status {
-    match kind {
-        ErrorKind::DisplayHelp | ErrorKind::DisplayVersion => Status::Done,
-        _ => Status::Usage,
-    }
-}
-
-// The reply of a command, and in `notes` what standard error gets beside it. Another one is added here, or beside those that tell
-// of a run (`lab_runs`), and in the table of commands (`lab_line`).
-fn answered_by<S: Shelf, W: Watcher>(
-    asked: &Asked,
+// The reply of a command, and in `notes` what standard error gets beside it. Another command is added here, and in the table of
+// commands (`lab_line`).
+fn reply_to<'w, S: Shelf, W: Watcher>(
+    alloc: Global,
+    command: &LabCommand<'_, 'w>,
     shelf: &mut S,
     watcher: W,
     notes: &mut Vec<u8>,
-) -> Result<Reply, Failure> {
-    match asked.command {
-        Command::Blocks => blocks_reply(asked, shelf, watcher),
-        Command::Build => build_reply(asked, shelf, notes),
-        Command::Certify => certify_reply(asked, shelf),
-        Command::Check => check_reply(asked, shelf),
-        Command::Compare => compare_reply(asked, shelf, watcher),
-        Command::Debug => debug_reply(asked, shelf, notes),
-        Command::Disassemble => disassemble_reply(asked, shelf),
-        Command::Plans => plans_reply(asked, shelf, watcher),
-        Command::Verify => verify_reply(asked, shelf),
-        Command::OfRun(command) => run_reply(asked, command, shelf, watcher, notes),
+) -> Result<Reply, LabFailure<'w>> {
+    match command {
+        LabCommand::Blocks(options) => blocks_reply(alloc, options, shelf, watcher),
+        LabCommand::Build(options) => build_reply(alloc, options, shelf, notes),
+        LabCommand::Caches(options) => caches_reply(alloc, options, shelf, watcher, notes),
+        LabCommand::Certify(source) => certify_reply(alloc, *source, shelf),
+        LabCommand::Check(options) => check_reply(alloc, options, shelf),
+        LabCommand::Compare(options) => compare_reply(alloc, options, shelf, watcher),
+        LabCommand::Debug(options) => debug_reply(alloc, options, shelf, notes),
+        LabCommand::Disassemble(options) => disassemble_reply(alloc, options, shelf),
+        LabCommand::Draw(options) => draw_reply(alloc, options, shelf, watcher, notes),
+        LabCommand::Explain(options) => explain_reply(alloc, options, shelf, watcher, notes),
+        LabCommand::Interrupts(options) => interrupts_reply(alloc, options, shelf, watcher, notes),
+        LabCommand::Plans(options) => plans_reply(alloc, options, shelf, watcher),
+        LabCommand::Profile(options) => profile_reply(alloc, options, shelf, watcher, notes),
+        LabCommand::Trace(options) => trace_reply(alloc, options, shelf, watcher, notes),
+        LabCommand::Verify(options) => verify_reply(alloc, options, shelf),
     }
 }
 
-// An answer for standard error.
-fn error_answer<'a>(
+// What standard error gets.
+fn for_errors<'w>(
     status: Status,
-    said: Result<Vec<u8>, AllocError>,
-) -> Result<Answer<'a>, Memory> {
-    match said {
-        Ok(said) => Ok(Answer {
+    bytes: Result<Vec<u8>, AllocError>,
+) -> Result<Delivery<'w>, Memory> {
+    match bytes {
+        Ok(bytes) => Ok(Delivery {
             status,
-            said,
+            bytes,
             to: Destination::Errors,
         }),
         Err(_) => Err(Memory),
     }
 }
 
-// What `check` prints of a source of which this is said, if it is refused and can be read once more.
+// What `check` prints of the source that a failure names, if that is refused and can be read once more.
 fn refusal<S: Shelf, C: Causes>(
     alloc: Global,
-    matches: &ArgMatches,
-    status: Status,
-    said: &[u8],
+    failure: LabFailure,
     shelf: &mut S,
     causes: C,
 ) -> Result<Option<Vec<u8>>, Memory> {
-    if status != Status::Refused {
-        return Ok(None);
-    }
-    match refused_name(alloc, matches, said) {
-        Ok(name) => refusal_text(alloc, shelf, &name, causes),
-        Err(_) => Err(Memory),
+    match failure {
+        LabFailure::Source { name, .. }
+        | LabFailure::Overlong { name, .. }
+        | LabFailure::NoLabel { name, .. } => refusal_text(alloc, shelf, name, causes),
+        _ => Ok(None),
     }
 }
 
-// The answer to what a command says of what it cannot use.
-fn refused_answer<'a, S: Shelf, C: Causes>(
+// What standard error gets by a failure.
+fn failed_delivery<'w, S: Shelf, C: Causes>(
     alloc: Global,
-    matches: &ArgMatches<'a>,
-    status: Status,
-    said: &[u8],
+    failure: LabFailure<'w>,
     shelf: &mut S,
     causes: C,
-) -> Result<Answer<'a>, Memory> {
-    match refusal(alloc, matches, status, said, shelf, causes)? {
-        Some(text) => error_answer(status, Ok(text)),
-        None => error_answer(status, error_text(alloc, matches, status, said, causes)),
-    }
-}
-
-// How a reply ends, and what it gives.
-fn parts_of(reply: Reply) -> (Status, Vec<u8>) {
-    match reply {
-        Reply::Prints { status, output } => (status, output),
-        Reply::Writes { bytes, .. } => (Status::Done, bytes),
-    }
-}
-
-// The answer that a reply is, with what goes to standard error in the place of what it says.
-fn answer_of<'a, S: Shelf, C: Causes>(
-    alloc: Global,
-    command: Command,
-    matches: &ArgMatches<'a>,
-    reply: Reply,
-    shelf: &mut S,
-    causes: C,
-) -> Result<Answer<'a>, Memory> {
-    let (status, said) = parts_of(reply);
-    if is_error(matches!(command, Command::Check), status) {
-        refused_answer(alloc, matches, status, &said, shelf, causes)
-    } else {
-        Ok(Answer {
-            status,
-            said,
-            to: destination(command, matches),
-        })
+) -> Result<Delivery<'w>, Memory> {
+    match refusal(alloc, failure, shelf, causes)? {
+        Some(text) => for_errors(failure.status(), Ok(text)),
+        None => for_errors(failure.status(), failure_text(alloc, failure, causes)),
     }
 }
 
 // Where output goes: to the file that is named, if one is; `-` is standard output. An image is written to the file of its name.
-fn destination<'a>(command: Command, matches: &ArgMatches<'a>) -> Destination<'a> {
-    match (command, matches.get_str("output"), matches.get_str("IMAGE")) {
-        (Command::Build, _, Some(name)) => Destination::File(name),
-        (_, None | Some("-"), _) => Destination::Output,
-        (_, Some(name), _) => Destination::File(name),
+fn destination<'w>(line: &CommandLine<'_, 'w>) -> Destination<'w> {
+    match (line.command, line.output) {
+        (LabCommand::Build(options), _) => Destination::File(options.image),
+        (_, None | Some("-")) => Destination::Output,
+        (_, Some(name)) => Destination::File(name),
     }
 }
 
-// The answer to words that ask for help or the version.
-fn help_answer<'a>(alloc: Global, error: &Error) -> Result<Answer<'a>, Memory> {
-    match format!(in alloc; "{error}") {
-        Ok(text) => Ok(Answer {
+// What is delivered of a reply.
+fn delivery_of<'w>(reply: Reply, to: Destination<'w>) -> Delivery<'w> {
+    match reply {
+        Reply::Prints { status, output } => Delivery {
+            status,
+            bytes: output,
+            to,
+        },
+        Reply::Writes { bytes, .. } => Delivery {
             status: Status::Done,
-            said: text.into_bytes(),
-            to: Destination::Output,
+            bytes,
+            to,
+        },
+    }
+}
+
+// What is delivered of a command.
+fn command_delivery<'w, S: Shelf, T: Watcher, C: Causes>(
+    alloc: Global,
+    line: &CommandLine<'_, 'w>,
+    shelf: &mut S,
+    watcher: T,
+    causes: C,
+    notes: &mut Vec<u8>,
+) -> Result<Delivery<'w>, Memory> {
+    match reply_to(alloc, &line.command, shelf, watcher, notes) {
+        Ok(reply) => Ok(delivery_of(reply, destination(line))),
+        Err(LabFailure::Memory) => Err(Memory),
+        Err(failure) => failed_delivery(alloc, failure, shelf, causes),
+    }
+}
+
+// The text of clap: help, the version, or help for standard error.
+fn clap_delivery<'w>(
+    alloc: Global,
+    status: Status,
+    error: &Error,
+    to: Destination<'w>,
+) -> Result<Delivery<'w>, Memory> {
+    match format!(in alloc; "{error}") {
+        Ok(text) => Ok(Delivery {
+            status,
+            bytes: text.into_bytes(),
+            to,
         }),
         Err(_) => Err(Memory),
     }
 }
 
-// The answer where there are no words: help, on standard error.
-fn bare_answer<'a>(alloc: Global, error: &Error) -> Result<Answer<'a>, Memory> {
-    match format!(in alloc; "{error}") {
-        Ok(text) => error_answer(Status::Usage, Ok(text.into_bytes())),
-        Err(_) => Err(Memory),
-    }
+// What standard error gets where the arguments are refused.
+fn usage_delivery<'w, C: Causes>(
+    alloc: Global,
+    words: &[String],
+    causes: C,
+) -> Result<Delivery<'w>, Memory> {
+    for_errors(Status::Usage, usage_text(alloc, causes.caller(), words))
 }
 
-// The answer to words that ask for no command.
-fn words_answer<'a, C: Causes>(
+// What is delivered where the arguments ask for no command: help or the version, or what is wrong with them.
+fn words_delivery<'w, C: Causes>(
     alloc: Global,
     words: &[String],
     error: &Error,
     causes: C,
-) -> Result<Answer<'a>, Memory> {
+) -> Result<Delivery<'w>, Memory> {
     match error.kind() {
         ErrorKind::OutOfMemory => Err(Memory),
-        kind if status_of(kind) == Status::Done => help_answer(alloc, error),
-        _ if words.is_empty() => bare_answer(alloc, error),
-        _ => error_answer(Status::Usage, usage_text(alloc, causes.caller(), words)),
+        ErrorKind::DisplayHelp | ErrorKind::DisplayVersion => {
+            clap_delivery(alloc, Status::Done, error, Destination::Output)
+        }
+        _ if words.is_empty() => clap_delivery(alloc, Status::Usage, error, Destination::Errors),
+        _ => usage_delivery(alloc, words, causes),
     }
 }
 
-// The reply of a command, where it has these words.
-fn reply_of<S: Shelf, T: Watcher>(
-    alloc: Global,
-    command: Command,
-    matches: &ArgMatches,
-    shelf: &mut S,
-    watcher: T,
-    notes: &mut Vec<u8>,
-) -> Result<Reply, Memory> {
-    let asked = Asked {
-        alloc,
-        command,
-        matches,
-    };
-    replied(answered_by(&asked, shelf, watcher, notes))
-}
-
-// The answer of a command, where it has these words.
-fn command_answer<'a, S: Shelf, T: Watcher, C: Causes>(
-    alloc: Global,
-    command: Command,
-    matches: &ArgMatches<'a>,
-    shelf: &mut S,
-    watcher: T,
-    causes: C,
-    notes: &mut Vec<u8>,
-) -> Result<Answer<'a>, Memory> {
-    let reply = reply_of(alloc, command, matches, shelf, watcher, notes)?;
-    answer_of(alloc, command, matches, reply, shelf, causes)
-}
-
-// The command that was found in the words, and what follows it.
-fn found_in<'m, 'a>(matches: &'m ArgMatches<'a>) -> Option<(Command, &'m ArgMatches<'a>)> {
-    match matches.subcommand() {
-        Some((name, found)) => match command_named(name) {
-            Some(command) => Some((command, found)),
-            None => None,
-        },
-        None => None,
-    }
-}
-
-// The answer to what was found in the words.
-fn found_answer<'a, S: Shelf, T: Watcher, C: Causes>(
+// What is delivered by matches.
+fn matched_delivery<'m, 'w, S: Shelf, T: Watcher, C: Causes>(
     alloc: Global,
     words: &[String],
-    matches: &ArgMatches<'a>,
+    matches: &'m ArgMatches<'w>,
     shelf: &mut S,
     watcher: T,
     causes: C,
     notes: &mut Vec<u8>,
-) -> Result<Answer<'a>, Memory> {
-    match found_in(matches) {
-        Some((command, found)) => command_answer(
-            alloc, command, found, shelf, watcher, causes, notes,
-        ),
-        None => error_answer(Status::Usage, usage_text(alloc, causes.caller(), words)),
+) -> Result<Delivery<'w>, Memory> {
+    match command_line(matches) {
+        Some(Ok(line)) => command_delivery(alloc, &line, shelf, watcher, causes, notes),
+        Some(Err(fault)) => { failed_delivery(alloc, LabFailure::Arguments(fault), shelf, causes) }
+        None => usage_delivery(alloc, words, causes),
     }
 }
 
-// The answer to the words.
-fn answer_to<'a, S: Shelf, T: Watcher, C: Causes>(
+// What is delivered by the arguments.
+fn delivery<'w, S: Shelf, T: Watcher, C: Causes>(
     alloc: Global,
-    words: &'a [String],
+    words: &'w [String],
     shelf: &mut S,
     watcher: T,
     causes: C,
     notes: &mut Vec<u8>,
-) -> Result<Answer<'a>, Memory> {
+) -> Result<Delivery<'w>, Memory> {
     match parse_words(alloc, words) {
-        Ok(matches) => found_answer(alloc, words, &matches, shelf, watcher, causes, notes),
-        Err(error) => words_answer(alloc, words, &error, causes),
+        Ok(matches) => matched_delivery(alloc, words, &matches, shelf, watcher, causes, notes),
+        Err(error) => words_delivery(alloc, words, &error, causes),
     }
 }
 
-// How a command ended, where what it answered went there: what could not be written is named.
-fn named_end(alloc: Global, ended: Ended, to: Destination) -> Ended {
-    if ended.status != Status::WriteFault {
-        return ended;
+// How a command ended, where what it delivered went there: what could not be written is named.
+fn named_end(alloc: Global, end: ExitReport, to: Destination) -> ExitReport {
+    if end.status != Status::WriteFault {
+        return end;
     }
     let name = match to {
         Destination::File(name) => Some(name),
         Destination::Output | Destination::Errors => None,
     };
     match unwritten_text(alloc, name) {
-        Ok(errors) => Ended {
+        Ok(errors) => ExitReport {
             status: Status::WriteFault,
             errors,
         },
-        Err(_) => ended,
+        Err(_) => end,
     }
 }
 
-// Puts out an answer.
-fn end_of<S: Shelf, W: Sink>(alloc: Global, answer: Answer, shelf: &mut S, out: &mut W) -> Ended {
-    let to = answer.to;
-    named_end(alloc, put_out(alloc, answer, shelf, out), to)
+// Puts out what is delivered.
+fn end_of<S: Shelf, W: Sink>(
+    alloc: Global,
+    delivery: Delivery,
+    shelf: &mut S,
+    out: &mut W,
+) -> ExitReport {
+    let to = delivery.to;
+    named_end(alloc, put_out(alloc, delivery, shelf, out), to)
 }
 
 // How a command ended, with notes for standard error, where it gets nothing else.
-fn noted(ended: Ended, notes: Vec<u8>) -> Ended {
-    if ended.errors.is_empty() {
-        Ended {
-            status: ended.status,
+fn noted(end: ExitReport, notes: Vec<u8>) -> ExitReport {
+    if end.errors.is_empty() {
+        ExitReport {
+            status: end.status,
             errors: notes,
         }
     } else {
-        ended
+        end
     }
 }
 
-/// Runs the command that the words, those after the program's name, ask for. It reads files from the shelf, tells the
+/// Runs the command that the arguments, those after the program's name, ask for. It reads files from the shelf, tells the
 /// watcher how far a run has come, and puts all that it prints into the sink, or writes it to the file that `-o` names.
 /// It answers how it ended and what goes to standard error: beside an output that is a line for each plan of a file that is
 /// rejected, and else why nothing was put out. Who is asked why a file cannot be read are the causes.
@@ -292,12 +260,12 @@ pub fn lab<S: Shelf, W: Sink, T: Watcher, C: Causes>(
     out: &mut W,
     watcher: T,
     causes: C,
-) -> Ended {
+) -> ExitReport {
     let mut notes = Vec::new(alloc);
-    let answer = answer_to(alloc, words, shelf, watcher, causes, &mut notes);
+    let delivered = delivery(alloc, words, shelf, watcher, causes, &mut notes);
     watcher.done();
-    match answer {
-        Ok(answer) => noted(end_of(alloc, answer, shelf, out), notes),
+    match delivered {
+        Ok(delivery) => noted(end_of(alloc, delivery, shelf, out), notes),
         Err(_) => failed(
             alloc,
             Status::Memory,

@@ -1,50 +1,8 @@
-//! What the words give.
-ghost use Rattle.std.specs.Prelude.{◌≡◌, codes, find, if◌then◌else◌};
-ghost use Rattle.std.specs.Option.{option_map_or};
-ghost use Rattle.std.specs.Str.{bytes_eq};
-
-use crate::table::Command;
+//! The values of options and arguments.
+use crate::table::ArgumentName;
 use clap::ArgMatches;
 use clap::parser::ValueSource;
-use std::alloc::Global;
-
-/// The name of standard input, as a word and as a file.
-const STANDARD_INPUT: &str = "-";
-
-const STANDARD_INPUT_FILE: &str = "/dev/stdin";
-
-/// A form of what is printed.
-#[derive(Clone, Copy)]
-pub enum Form {
-    Text,
-    Json,
-    Csv,
-    Svg,
-    Html,
-    Kanata,
-    Vcd,
-    Callgrind,
-    Dot,
-}
-
-/// A word of an option, and what it stands for.
-#[derive(Clone, Copy)]
-pub struct WordRow<T> {
-    pub word: &'static str,
-    pub means: T,
-}
-
-/// What a word stands for; `other`, where it is in none of the rows.
-pub fn meant_by<T: Copy>(rows: &[WordRow<T>], word: &str, other: T) -> T
-    ensures { result ≡ option_map_or (λ row. row.means) (find (λ row. bytes_eq row.word.now word.now) rows.now) other }
-{
-    for row in rows {
-        if row.word == word {
-            return row.means;
-        }
-    }
-    other
-}
+use lab_options::{Form, Part, Scheduler, Sort, WordRow, meant_by};
 
 // The forms beside text.
 static FORMS: [WordRow<Form>; 8] = [
@@ -82,73 +40,143 @@ static FORMS: [WordRow<Form>; 8] = [
     },
 ];
 
-/// What is asked: a command, its words, and memory for the reply.
-#[derive(Clone, Copy)]
-pub struct Asked<'a, 'w> {
-    pub alloc: Global,
-    pub command: Command,
-    pub matches: &'a ArgMatches<'w>,
+// The schedulers beside that of `run`.
+static SCHEDULERS: [WordRow<Scheduler>; 3] = [
+    WordRow {
+        word: "padded",
+        means: Scheduler::Padded,
+    },
+    WordRow {
+        word: "list",
+        means: Scheduler::List,
+    },
+    WordRow {
+        word: "best",
+        means: Scheduler::Best,
+    },
+];
+
+// The parts beside lines.
+static PARTS: [WordRow<Part>; 3] = [
+    WordRow {
+        word: "label",
+        means: Part::Label,
+    },
+    WordRow {
+        word: "function",
+        means: Part::Function,
+    },
+    WordRow {
+        word: "c",
+        means: Part::C,
+    },
+];
+
+// The columns beside the order of the source.
+static SORTS: [WordRow<Sort>; 8] = [
+    WordRow {
+        word: "count",
+        means: Sort::Count,
+    },
+    WordRow {
+        word: "cycles",
+        means: Sort::Cycles,
+    },
+    WordRow {
+        word: "caused",
+        means: Sort::Caused,
+    },
+    WordRow {
+        word: "cpi",
+        means: Sort::Cpi,
+    },
+    WordRow {
+        word: "stalls",
+        means: Sort::Stalls,
+    },
+    WordRow {
+        word: "noops",
+        means: Sort::Noops,
+    },
+    WordRow {
+        word: "squashed",
+        means: Sort::Squashed,
+    },
+    WordRow {
+        word: "killed",
+        means: Sort::Killed,
+    },
+];
+
+/// The word of an argument; empty where it has none, which is the name of no file.
+pub(crate) fn word_of<'w>(matches: &ArgMatches<'w>, argument: ArgumentName) -> &'w str {
+    matches.get_str(argument.name()).unwrap_or("")
 }
 
-/// The word of an option or a name; empty where there is none, which is the name of no file.
-pub(crate) fn word_given<'a>(matches: &ArgMatches<'a>, name: &str) -> &'a str {
-    matches.get_str(name).unwrap_or("")
+/// The file of an option, if it is given.
+pub(crate) fn file_of<'w>(matches: &ArgMatches<'w>, option: ArgumentName) -> Option<&'w str> {
+    matches.get_str(option.name())
 }
 
-/// The file of a word: `-` is standard input.
-pub fn file_by<'a>(word: &'a str) -> &'a str
-    ensures { result.now ≡ if bytes_eq word.entry.now (codes "-") then codes "/dev/stdin" else word.entry.now }
-{
-    match word {
-        STANDARD_INPUT => STANDARD_INPUT_FILE,
-        word => word,
+/// The words of an argument that may have several; none where it is not given.
+pub(crate) fn words_of<'m, 'w>(
+    matches: &'m ArgMatches<'w>,
+    argument: ArgumentName,
+) -> Option<&'m [&'w str]> {
+    matches.get_strs(argument.name())
+}
+
+/// Whether an option without a value is given.
+pub(crate) fn flag_of(matches: &ArgMatches, option: ArgumentName) -> bool {
+    matches.get_flag(option.name())
+}
+
+/// Whether an option is among the arguments, and has not its default alone.
+pub(crate) fn is_given(matches: &ArgMatches, option: ArgumentName) -> bool {
+    matches!(
+        matches.value_source(option.name()),
+        Some(ValueSource::CommandLine)
+    )
+}
+
+/// The number of an option, if it has one.
+pub(crate) fn number_if_any(matches: &ArgMatches, option: ArgumentName) -> Option<u32> {
+    matches.get_one::<u32>(option.name())
+}
+
+/// The number of an option that has a default.
+pub(crate) fn number_of(matches: &ArgMatches, option: ArgumentName) -> u32 {
+    number_if_any(matches, option).unwrap_or(default_of(option))
+}
+
+// The default of an option; 0 where it has none.
+fn default_of(option: ArgumentName) -> u32 {
+    match option.row().default {
+        Some(text) => text.parse::<u32>().unwrap_or(0),
+        None => 0,
     }
 }
 
-impl<'a, 'w> Asked<'a, 'w> {
-    /// The number of an option that has a default.
-    pub fn number(&self, name: &str) -> u32 {
-        self.matches.get_one::<u32>(name).unwrap_or(0)
-    }
+/// The form of what is printed.
+pub(crate) fn form_of(matches: &ArgMatches, option: ArgumentName) -> Form {
+    meant_by(&FORMS, word_of(matches, option), Form::Text)
+}
 
-    /// The word of an option or a name; empty where there is none.
-    pub fn word(&self, name: &str) -> &'w str {
-        word_given(self.matches, name)
-    }
+/// The scheduler that is named.
+pub(crate) fn scheduler_of(matches: &ArgMatches) -> Scheduler {
+    meant_by(
+        &SCHEDULERS,
+        word_of(matches, ArgumentName::Scheduler),
+        Scheduler::Copies,
+    )
+}
 
-    /// The word of an option, if it is given.
-    pub fn word_if_any(&self, name: &str) -> Option<&'w str> {
-        self.matches.get_str(name)
-    }
+/// The parts of a profile that are named.
+pub(crate) fn part_of(matches: &ArgMatches) -> Part {
+    meant_by(&PARTS, word_of(matches, ArgumentName::By), Part::Line)
+}
 
-    /// Whether an option is among the words, and has not its default alone.
-    pub fn is_given(&self, name: &str) -> bool {
-        matches!(
-            self.matches.value_source(name),
-            Some(ValueSource::CommandLine)
-        )
-    }
-
-    /// The form of what is printed.
-    pub fn form(&self) -> Form {
-        meant_by(&FORMS, self.word("as"), Form::Text)
-    }
-
-    /// Whether an option without a value is there.
-    pub fn flag(&self, name: &str) -> bool {
-        self.matches.get_flag(name)
-    }
-
-    /// The file that a word names, if there is one.
-    pub fn file_if_any(&self, name: &str) -> Option<&'w str> {
-        match self.matches.get_str(name) {
-            Some(word) => Some(file_by(word)),
-            None => None,
-        }
-    }
-
-    /// The file that a word names; an empty name, which no file has, where there is none.
-    pub fn file(&self, name: &str) -> &'w str {
-        self.file_if_any(name).unwrap_or("")
-    }
+/// The column of a profile that is named.
+pub(crate) fn sort_of(matches: &ArgMatches) -> Sort {
+    meant_by(&SORTS, word_of(matches, ArgumentName::Sort), Sort::Line)
 }

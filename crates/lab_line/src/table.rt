@@ -1,6 +1,5 @@
-//! The table of commands: their names, what stands behind them, and their options.
-ghost use Rattle.std.specs.Prelude.{◌≡◌, find, option_map};
-ghost use Rattle.std.specs.Str.{bytes_eq};
+//! The table of commands: their names, and their arguments.
+use lab_options::{WordRow, meaning_in};
 
 /// The most cycles of a run.
 const MOST_BUDGET: i64 = 100_000_000;
@@ -21,562 +20,809 @@ const FIRST_DATA: i64 = 256;
 
 const LAST_DATA: i64 = 65_535;
 
-/// A command.
+/// The name of the plan file of `plans`, and of the option that asks for one.
+pub(crate) const FILE_NAME: &str = "FILE";
+
+pub(crate) const PRINT_NAME: &str = "print";
+
+/// The name of a command.
 #[derive(Clone, Copy)]
-pub enum Command {
+pub(crate) enum CommandName {
     Blocks,
     Build,
+    Caches,
     Certify,
     Check,
     Compare,
     Debug,
     Disassemble,
-    Plans,
-    Verify,
-    /// One that tells of the run of a source.
-    OfRun(RunCommand),
-}
-
-/// A command that tells of the run of a source.
-#[derive(Clone, Copy)]
-pub enum RunCommand {
     Draw,
     Explain,
-    Profile,
-    Caches,
     Interrupts,
-    Trace,
-}
-
-/// What stands behind the name of a command.
-#[derive(Clone, Copy)]
-pub(crate) enum Names {
-    /// A source.
-    Source,
-    /// One source or more.
-    Sources,
-    /// A source or an image file.
-    File,
-    /// A source and a plan file, or the flag that asks for one.
     Plans,
-    /// A source, an image file and a certificate.
-    Certified,
-    /// A source and the image file that is written.
-    Image,
-    /// A source and a label.
-    Label,
+    Profile,
+    Trace,
+    Verify,
 }
 
-/// What stands behind the name of an option.
+/// What an argument is: positional, or an option and what follows its name.
 #[derive(Clone, Copy)]
 pub(crate) enum Takes {
+    /// It is positional, and one file or label.
+    Positional {
+        is_required: bool,
+    },
+    /// It is positional, and one file or more.
+    Positionals,
     Nothing,
     File,
     /// A file. The option has to be there.
     NeededFile,
     /// A name and a file. It may come several times.
     NamedFile,
-    /// A number, and the one that is taken where it is left out, if there is one.
+    /// A number of a range.
     Number {
-        default: Option<&'static str>,
         least: i64,
         most: i64,
     },
-    /// One of some words, what it is called in help, and the word that is taken where it is left out.
+    /// One of some words, and what it is called in help.
     Word {
         called: &'static str,
-        words: &'static [&'static str],
-        default: &'static str,
+        choice: Choice,
     },
 }
 
-/// An option, without its two hyphens.
+impl Takes {
+    /// It is no option.
+    pub fn is_positional(self) -> bool {
+        matches!(self, Takes::Positional { .. } | Takes::Positionals)
+    }
+}
+
+/// The words that an option takes.
 #[derive(Clone, Copy)]
-pub(crate) struct OptionRow {
+pub(crate) enum Choice {
+    TextOrJson,
+    TextJsonOrCsv,
+    DrawForm,
+    ProfileForm,
+    BlocksForm,
+    CachesForm,
+    TraceForm,
+    Scheduler,
+    Colour,
+    Part,
+    Sort,
+}
+
+static TEXT_OR_JSON: [&str; 2] = ["text", "json"];
+
+static TEXT_JSON_OR_CSV: [&str; 3] = ["text", "json", "csv"];
+
+static DRAW_FORMS: [&str; 6] = ["text", "svg", "html", "json", "kanata", "vcd"];
+
+static PROFILE_FORMS: [&str; 3] = ["text", "json", "callgrind"];
+
+static BLOCKS_FORMS: [&str; 3] = ["text", "json", "dot"];
+
+static CACHES_FORMS: [&str; 3] = ["text", "json", "svg"];
+
+static TRACE_FORMS: [&str; 1] = ["jsonl"];
+
+static SCHEDULERS: [&str; 4] = ["padded", "list", "copies", "best"];
+
+static COLOURS: [&str; 2] = ["always", "never"];
+
+static PARTS: [&str; 4] = ["line", "label", "function", "c"];
+
+static SORTS: [&str; 9] = [
+    "line", "count", "cycles", "caused", "cpi", "stalls", "noops", "squashed", "killed",
+];
+
+impl Choice {
+    /// The words.
+    pub fn words(self) -> &'static [&'static str] {
+        match self {
+            Choice::TextOrJson => &TEXT_OR_JSON,
+            Choice::TextJsonOrCsv => &TEXT_JSON_OR_CSV,
+            Choice::DrawForm => &DRAW_FORMS,
+            Choice::ProfileForm => &PROFILE_FORMS,
+            Choice::BlocksForm => &BLOCKS_FORMS,
+            Choice::CachesForm => &CACHES_FORMS,
+            Choice::TraceForm => &TRACE_FORMS,
+            Choice::Scheduler => &SCHEDULERS,
+            Choice::Colour => &COLOURS,
+            Choice::Part => &PARTS,
+            Choice::Sort => &SORTS,
+        }
+    }
+}
+
+/// What is known of an argument: its name, without the two hyphens of an option, what it is, the text that is taken where it is
+/// left out, if there is one, and what help says.
+#[derive(Clone, Copy)]
+pub(crate) struct ArgumentRow {
     pub name: &'static str,
     pub takes: Takes,
+    pub default: Option<&'static str>,
     pub help: &'static str,
 }
 
-/// What the words of a command are.
+/// The arguments. Those of one name differ in what they take, or in what help says.
 #[derive(Clone, Copy)]
-pub(crate) struct CommandRow {
-    pub name: &'static str,
-    pub command: Command,
-    pub about: &'static str,
-    pub names: Names,
-    pub options: &'static [OptionRow],
+pub(crate) enum ArgumentName {
+    Source,
+    Sources,
+    File,
+    PlansFile,
+    Image,
+    WrittenImage,
+    Certificate,
+    Label,
+    Budget,
+    SessionBudget,
+    Interrupts,
+    Input,
+    Scheduler,
+    PlanFile,
+    LinkedPlans,
+    NamedPlans,
+    DrawForm,
+    FirstDrawn,
+    Cycles,
+    All,
+    CheckForm,
+    Colour,
+    ExplainForm,
+    By,
+    Sort,
+    ProfileForm,
+    CompareForm,
+    BlocksForm,
+    DisassembleForm,
+    CachesForm,
+    Line,
+    Brings,
+    Penalty,
+    From,
+    To,
+    Step,
+    Pairs,
+    Rows,
+    SweepForm,
+    TraceForm,
+    Stops,
+    Watch,
+    Output,
+    PrintFlag,
 }
 
-const BUDGET: OptionRow = OptionRow {
-    name: "budget",
-    takes: Takes::Number {
+// What is known of the arguments, in the order of their names above.
+static ARGUMENTS: [ArgumentRow; 44] = [
+    ArgumentRow {
+        name: "SOURCE",
+        takes: Takes::Positional { is_required: true },
+        default: None,
+        help: "the source, in assembly language; - is standard input",
+    },
+    ArgumentRow {
+        name: "SOURCE",
+        takes: Takes::Positionals,
+        default: None,
+        help: "the source, in assembly language; - is standard input",
+    },
+    ArgumentRow {
+        name: "FILE",
+        takes: Takes::Positional { is_required: true },
+        default: None,
+        help: "the source, in assembly language, or the image file",
+    },
+    // It is required unless one is printed.
+    ArgumentRow {
+        name: FILE_NAME,
+        takes: Takes::Positional { is_required: false },
+        default: None,
+        help: "the plans, a line for each block",
+    },
+    ArgumentRow {
+        name: "IMAGE",
+        takes: Takes::Positional { is_required: true },
+        default: None,
+        help: "the image file",
+    },
+    ArgumentRow {
+        name: "IMAGE",
+        takes: Takes::Positional { is_required: true },
+        default: None,
+        help: "the image file that is written",
+    },
+    ArgumentRow {
+        name: "CERTIFICATE",
+        takes: Takes::Positional { is_required: true },
+        default: None,
+        help: "the certificate",
+    },
+    ArgumentRow {
+        name: "LABEL",
+        takes: Takes::Positional { is_required: true },
+        default: None,
+        help: "the label of an instruction",
+    },
+    ArgumentRow {
+        name: "budget",
+        takes: Takes::Number {
+            least: 1,
+            most: MOST_BUDGET,
+        },
         default: Some("1000000"),
-        least: 1,
-        most: MOST_BUDGET,
+        help: "the most cycles that the run may take",
     },
-    help: "the most cycles that the run may take",
-};
-
-const INTERRUPTS: OptionRow = OptionRow {
-    name: "interrupts",
-    takes: Takes::File,
-    help: "the cycles in which an interrupt is requested",
-};
-
-const INPUT: OptionRow = OptionRow {
-    name: "input",
-    takes: Takes::File,
-    help: "the bytes of the input",
-};
-
-// The form of what is printed.
-const TEXT_OR_JSON: Takes = Takes::Word {
-    called: "FORM",
-    words: &["text", "json"],
-    default: "text",
-};
-
-const TEXT_JSON_OR_CSV: Takes = Takes::Word {
-    called: "FORM",
-    words: &["text", "json", "csv"],
-    default: "text",
-};
-
-// The first of some cycles.
-const FIRST_CYCLE: Takes = Takes::Number {
-    default: Some("0"),
-    least: 0,
-    most: MOST_BUDGET,
-};
-
-const SCHEDULER: OptionRow = OptionRow {
-    name: "scheduler",
-    takes: Takes::Word {
-        called: "NAME",
-        words: &["padded", "list", "copies", "best"],
-        default: "copies",
+    // The numbers of a session are those of the toolchain's command, which links without a plan file.
+    ArgumentRow {
+        name: "budget",
+        takes: Takes::Number {
+            least: 0,
+            most: MOST_BUDGET,
+        },
+        default: Some("1000000"),
+        help: "the most cycles that the run may take",
     },
-    help: "the scheduler whose plans are run, as compare names it",
-};
-
-const PLAN_FILE: OptionRow = OptionRow {
-    name: "plans",
-    takes: Takes::File,
-    help: "a plan file, whose plans are run in place of a scheduler's",
-};
-
-// Without this option the toolchain answers the command.
-const LINKED_PLANS: OptionRow = OptionRow {
-    name: "plans",
-    takes: Takes::NeededFile,
-    help: "a plan file, by whose plans the source is linked",
-};
-
-const DRAW: [OptionRow; 8] = [
-    OptionRow {
+    ArgumentRow {
+        name: "interrupts",
+        takes: Takes::File,
+        default: None,
+        help: "the cycles in which an interrupt is requested",
+    },
+    ArgumentRow {
+        name: "input",
+        takes: Takes::File,
+        default: None,
+        help: "the bytes of the input",
+    },
+    ArgumentRow {
+        name: "scheduler",
+        takes: Takes::Word {
+            called: "NAME",
+            choice: Choice::Scheduler,
+        },
+        default: Some("copies"),
+        help: "the scheduler whose plans are run, as compare names it",
+    },
+    ArgumentRow {
+        name: "plans",
+        takes: Takes::File,
+        default: None,
+        help: "a plan file, whose plans are run in place of a scheduler's",
+    },
+    // Without this option the toolchain answers the command.
+    ArgumentRow {
+        name: "plans",
+        takes: Takes::NeededFile,
+        default: None,
+        help: "a plan file, by whose plans the source is linked",
+    },
+    ArgumentRow {
+        name: "plans",
+        takes: Takes::NamedFile,
+        default: None,
+        help: "a column for the plans of a file, by a name; may come several times",
+    },
+    ArgumentRow {
         name: "as",
         takes: Takes::Word {
             called: "FORM",
-            words: &["text", "svg", "html", "json", "kanata", "vcd"],
-            default: "text",
+            choice: Choice::DrawForm,
         },
+        default: Some("text"),
         help: "the form of the picture",
     },
-    OptionRow {
+    ArgumentRow {
         name: "from",
-        takes: FIRST_CYCLE,
+        takes: Takes::Number {
+            least: 0,
+            most: MOST_BUDGET,
+        },
+        default: Some("0"),
         help: "the first cycle that is drawn",
     },
-    OptionRow {
+    ArgumentRow {
         name: "cycles",
         takes: Takes::Number {
-            default: Some("64"),
             least: 1,
             most: MOST_DRAWN,
         },
+        default: Some("64"),
         help: "how many cycles are drawn",
     },
-    SCHEDULER,
-    PLAN_FILE,
-    BUDGET,
-    INTERRUPTS,
-    INPUT,
-];
-
-const CHECK: [OptionRow; 3] = [
-    OptionRow {
+    ArgumentRow {
         name: "all",
         takes: Takes::Nothing,
+        default: None,
         help: "shows more than the first twenty",
     },
-    OptionRow {
+    ArgumentRow {
         name: "as",
-        takes: TEXT_OR_JSON,
+        takes: Takes::Word {
+            called: "FORM",
+            choice: Choice::TextOrJson,
+        },
+        default: Some("text"),
         help: "the form of what is found",
     },
-    OptionRow {
+    ArgumentRow {
         name: "colour",
         takes: Takes::Word {
             called: "WHEN",
-            words: &["always", "never"],
-            default: "never",
+            choice: Choice::Colour,
         },
+        default: Some("never"),
         help: "whether the text is in the colours of a terminal",
     },
-];
-
-const EXPLAIN: [OptionRow; 4] = [
-    OptionRow {
+    ArgumentRow {
         name: "as",
-        takes: TEXT_OR_JSON,
+        takes: Takes::Word {
+            called: "FORM",
+            choice: Choice::TextOrJson,
+        },
+        default: Some("text"),
         help: "the form of the output",
     },
-    BUDGET,
-    INTERRUPTS,
-    INPUT,
-];
-
-const PROFILE: [OptionRow; 8] = [
-    OptionRow {
+    ArgumentRow {
         name: "by",
         takes: Takes::Word {
             called: "PART",
-            words: &["line", "label", "function", "c"],
-            default: "line",
+            choice: Choice::Part,
         },
+        default: Some("line"),
         help: "the parts of the profile: lines, labels, functions, or lines of C",
     },
-    OptionRow {
+    ArgumentRow {
         name: "sort",
         takes: Takes::Word {
             called: "COLUMN",
-            words: &[
-                "line", "count", "cycles", "caused", "cpi", "stalls", "noops", "squashed", "killed",
-            ],
-            default: "line",
+            choice: Choice::Sort,
         },
+        default: Some("line"),
         help: "the column whose greatest number comes first; line is the order of the source",
     },
-    OptionRow {
+    ArgumentRow {
         name: "as",
         takes: Takes::Word {
             called: "FORM",
-            words: &["text", "json", "callgrind"],
-            default: "text",
+            choice: Choice::ProfileForm,
         },
+        default: Some("text"),
         help: "the form of the profile",
     },
-    SCHEDULER,
-    PLAN_FILE,
-    BUDGET,
-    INTERRUPTS,
-    INPUT,
-];
-
-const COMPARE: [OptionRow; 5] = [
-    OptionRow {
+    ArgumentRow {
         name: "as",
-        takes: TEXT_JSON_OR_CSV,
+        takes: Takes::Word {
+            called: "FORM",
+            choice: Choice::TextJsonOrCsv,
+        },
+        default: Some("text"),
         help: "the form of the comparison",
     },
-    OptionRow {
-        name: "plans",
-        takes: Takes::NamedFile,
-        help: "a column for the plans of a file, by a name; may come several times",
-    },
-    BUDGET,
-    INTERRUPTS,
-    INPUT,
-];
-
-const BLOCKS: [OptionRow; 4] = [
-    OptionRow {
+    ArgumentRow {
         name: "as",
         takes: Takes::Word {
             called: "FORM",
-            words: &["text", "json", "dot"],
-            default: "text",
+            choice: Choice::BlocksForm,
         },
+        default: Some("text"),
         help: "the form of the blocks",
     },
-    BUDGET,
-    INTERRUPTS,
-    INPUT,
-];
-
-const DISASSEMBLE: [OptionRow; 1] = [OptionRow {
-    name: "as",
-    takes: TEXT_OR_JSON,
-    help: "the form of the listing",
-}];
-
-const CACHES: [OptionRow; 7] = [
-    OptionRow {
+    ArgumentRow {
         name: "as",
         takes: Takes::Word {
             called: "FORM",
-            words: &["text", "json", "svg"],
-            default: "text",
+            choice: Choice::TextOrJson,
         },
+        default: Some("text"),
+        help: "the form of the listing",
+    },
+    ArgumentRow {
+        name: "as",
+        takes: Takes::Word {
+            called: "FORM",
+            choice: Choice::CachesForm,
+        },
+        default: Some("text"),
         help: "the form of the table",
     },
-    OptionRow {
+    ArgumentRow {
         name: "line",
         takes: Takes::Number {
-            default: Some("16"),
             least: 1,
             most: MOST_WORDS,
         },
+        default: Some("16"),
         help: "the words of a line",
     },
-    OptionRow {
+    ArgumentRow {
         name: "brings",
         takes: Takes::Number {
-            default: Some("2"),
             least: 1,
             most: MOST_WORDS,
         },
+        default: Some("2"),
         help: "the words that a miss brings, at most those of a line",
     },
-    OptionRow {
+    ArgumentRow {
         name: "penalty",
         takes: Takes::Number {
-            default: Some("2"),
             least: 0,
             most: MOST_PENALTY,
         },
+        default: Some("2"),
         help: "the cycles that a miss costs",
     },
-    PLAN_FILE,
-    BUDGET,
-    INPUT,
-];
-
-const SWEEP: [OptionRow; 9] = [
-    OptionRow {
+    ArgumentRow {
         name: "from",
-        takes: FIRST_CYCLE,
-        help: "the first cycle in which a request comes",
-    },
-    OptionRow {
-        name: "to",
         takes: Takes::Number {
-            default: None,
             least: 0,
             most: MOST_BUDGET,
         },
+        default: Some("0"),
+        help: "the first cycle in which a request comes",
+    },
+    ArgumentRow {
+        name: "to",
+        takes: Takes::Number {
+            least: 0,
+            most: MOST_BUDGET,
+        },
+        default: None,
         help: "the last cycle in which a request comes; that of the undisturbed run without it",
     },
-    OptionRow {
+    ArgumentRow {
         name: "step",
         takes: Takes::Number {
-            default: Some("1"),
             least: 1,
             most: MOST_BUDGET,
         },
+        default: Some("1"),
         help: "how many cycles the requests of two runs are apart",
     },
-    OptionRow {
+    ArgumentRow {
         name: "pairs",
         takes: Takes::Nothing,
+        default: None,
         help: "runs with a request in each two of the cycles",
     },
-    OptionRow {
+    ArgumentRow {
         name: "rows",
         takes: Takes::Nothing,
+        default: None,
         help: "prints each run as well",
     },
-    OptionRow {
-        name: "as",
-        takes: TEXT_JSON_OR_CSV,
-        help: "the form of the output",
-    },
-    PLAN_FILE,
-    BUDGET,
-    INPUT,
-];
-
-const TRACE: [OptionRow; 6] = [
-    OptionRow {
+    ArgumentRow {
         name: "as",
         takes: Takes::Word {
             called: "FORM",
-            words: &["jsonl"],
-            default: "jsonl",
+            choice: Choice::TextJsonOrCsv,
         },
+        default: Some("text"),
+        help: "the form of the output",
+    },
+    ArgumentRow {
+        name: "as",
+        takes: Takes::Word {
+            called: "FORM",
+            choice: Choice::TraceForm,
+        },
+        default: Some("jsonl"),
         help: "the form of the trace: a JSON text a line",
     },
-    SCHEDULER,
-    PLAN_FILE,
-    BUDGET,
-    INTERRUPTS,
-    INPUT,
-];
-
-const PLANS: [OptionRow; 3] = [BUDGET, INTERRUPTS, INPUT];
-
-const BUILD: [OptionRow; 1] = [LINKED_PLANS];
-
-// The numbers are those of the toolchain's command, which links without a plan file.
-const DEBUG: [OptionRow; 6] = [
-    LINKED_PLANS,
-    OptionRow {
+    ArgumentRow {
         name: "stops",
         takes: Takes::Number {
-            default: Some("1"),
             least: 1,
             most: MOST_STOPS,
         },
+        default: Some("1"),
         help: "how many stops are shown",
     },
-    OptionRow {
+    ArgumentRow {
         name: "watch",
         takes: Takes::Number {
-            default: Some("256"),
             least: FIRST_DATA,
             most: LAST_DATA,
         },
+        default: Some("256"),
         help: "the data word that each stop shows",
     },
-    OptionRow {
-        name: "budget",
-        takes: Takes::Number {
-            default: Some("1000000"),
-            least: 0,
-            most: MOST_BUDGET,
-        },
-        help: "the most cycles that the run may take",
+    ArgumentRow {
+        name: "output",
+        takes: Takes::File,
+        default: None,
+        help: "writes what is printed to a file",
     },
-    INTERRUPTS,
-    INPUT,
-];
-
-const NONE: [OptionRow; 0] = [];
-
-/// The commands, in the order in which help tells them. Another one is added here and where it is answered: in `answers.rt` of
-/// `lab_runs`, or in `top.rt` of `lab_command`.
-pub(crate) static COMMANDS: [CommandRow; 15] = [
-    CommandRow {
-        name: "draw",
-        command: Command::OfRun(RunCommand::Draw),
-        about: "draws the instructions of a run by its cycles",
-        names: Names::Source,
-        options: &DRAW,
-    },
-    CommandRow {
-        name: "check",
-        command: Command::Check,
-        about: "shows every faulty line of a source, or of several modules, and what is wrong with it",
-        names: Names::Sources,
-        options: &CHECK,
-    },
-    CommandRow {
-        name: "explain",
-        command: Command::OfRun(RunCommand::Explain),
-        about: "compares a run with the sequential semantics",
-        names: Names::Source,
-        options: &EXPLAIN,
-    },
-    CommandRow {
-        name: "profile",
-        command: Command::OfRun(RunCommand::Profile),
-        about: "measures what each part of a source costs in a run",
-        names: Names::Source,
-        options: &PROFILE,
-    },
-    CommandRow {
-        name: "compare",
-        command: Command::Compare,
-        about: "compares what four schedulers make of a source, or of several",
-        names: Names::Sources,
-        options: &COMPARE,
-    },
-    CommandRow {
-        name: "disassemble",
-        command: Command::Disassemble,
-        about: "lists the words of a source or an image file in assembly language",
-        names: Names::File,
-        options: &DISASSEMBLE,
-    },
-    CommandRow {
-        name: "blocks",
-        command: Command::Blocks,
-        about: "shows the blocks of a source, their dependences and the lengths of their plans",
-        names: Names::Source,
-        options: &BLOCKS,
-    },
-    CommandRow {
-        name: "caches",
-        command: Command::OfRun(RunCommand::Caches),
-        about: "measures a run with other caches",
-        names: Names::Source,
-        options: &CACHES,
-    },
-    CommandRow {
-        name: "interrupts",
-        command: Command::OfRun(RunCommand::Interrupts),
-        about: "measures what an interrupt costs in each cycle of a run",
-        names: Names::Source,
-        options: &SWEEP,
-    },
-    CommandRow {
-        name: "trace",
-        command: Command::OfRun(RunCommand::Trace),
-        about: "prints each turn of a run, for programs that replay it",
-        names: Names::Source,
-        options: &TRACE,
-    },
-    CommandRow {
-        name: "plans",
-        command: Command::Plans,
-        about: "runs a source by plans from a file",
-        names: Names::Plans,
-        options: &PLANS,
-    },
-    CommandRow {
-        name: "build",
-        command: Command::Build,
-        about: "writes a source that is linked by plans from a file as an image file",
-        names: Names::Image,
-        options: &BUILD,
-    },
-    CommandRow {
-        name: "debug",
-        command: Command::Debug,
-        about: "stops a source that is linked by plans from a file each time that it comes to a label",
-        names: Names::Label,
-        options: &DEBUG,
-    },
-    CommandRow {
-        name: "certify",
-        command: Command::Certify,
-        about: "prints what shows that the image of a source means it",
-        names: Names::Source,
-        options: &NONE,
-    },
-    CommandRow {
-        name: "verify",
-        command: Command::Verify,
-        about: "checks by a certificate that an image means a source",
-        names: Names::Certified,
-        options: &NONE,
+    ArgumentRow {
+        name: PRINT_NAME,
+        takes: Takes::Nothing,
+        default: None,
+        help: "prints the plans of the list scheduler",
     },
 ];
 
-// The command of this name in a table, if there is one.
-fn command_in(rows: &[CommandRow], name: &str) -> Option<Command>
-    ensures { result ≡ option_map (λ row. row.command) (find (λ row. bytes_eq row.name.now name.now) rows.now) }
-{
-    for row in rows {
-        if row.name == name {
-            return Some(row.command);
+impl ArgumentName {
+    /// What is known of it.
+    pub fn row(self) -> &'static ArgumentRow {
+        &ARGUMENTS[self as usize]
+    }
+
+    /// Its name, without the two hyphens of an option.
+    pub fn name(self) -> &'static str {
+        self.row().name
+    }
+
+    /// What it is.
+    pub fn takes(self) -> Takes {
+        self.row().takes
+    }
+}
+
+static DRAW: [ArgumentName; 10] = [
+    ArgumentName::Source,
+    ArgumentName::DrawForm,
+    ArgumentName::FirstDrawn,
+    ArgumentName::Cycles,
+    ArgumentName::Scheduler,
+    ArgumentName::PlanFile,
+    ArgumentName::Budget,
+    ArgumentName::Interrupts,
+    ArgumentName::Input,
+    ArgumentName::Output,
+];
+
+static CHECK: [ArgumentName; 5] = [
+    ArgumentName::Sources,
+    ArgumentName::All,
+    ArgumentName::CheckForm,
+    ArgumentName::Colour,
+    ArgumentName::Output,
+];
+
+static EXPLAIN: [ArgumentName; 6] = [
+    ArgumentName::Source,
+    ArgumentName::ExplainForm,
+    ArgumentName::Budget,
+    ArgumentName::Interrupts,
+    ArgumentName::Input,
+    ArgumentName::Output,
+];
+
+static PROFILE: [ArgumentName; 10] = [
+    ArgumentName::Source,
+    ArgumentName::By,
+    ArgumentName::Sort,
+    ArgumentName::ProfileForm,
+    ArgumentName::Scheduler,
+    ArgumentName::PlanFile,
+    ArgumentName::Budget,
+    ArgumentName::Interrupts,
+    ArgumentName::Input,
+    ArgumentName::Output,
+];
+
+static COMPARE: [ArgumentName; 7] = [
+    ArgumentName::Sources,
+    ArgumentName::CompareForm,
+    ArgumentName::NamedPlans,
+    ArgumentName::Budget,
+    ArgumentName::Interrupts,
+    ArgumentName::Input,
+    ArgumentName::Output,
+];
+
+static DISASSEMBLE: [ArgumentName; 3] = [
+    ArgumentName::File,
+    ArgumentName::DisassembleForm,
+    ArgumentName::Output,
+];
+
+static BLOCKS: [ArgumentName; 6] = [
+    ArgumentName::Source,
+    ArgumentName::BlocksForm,
+    ArgumentName::Budget,
+    ArgumentName::Interrupts,
+    ArgumentName::Input,
+    ArgumentName::Output,
+];
+
+static CACHES: [ArgumentName; 9] = [
+    ArgumentName::Source,
+    ArgumentName::CachesForm,
+    ArgumentName::Line,
+    ArgumentName::Brings,
+    ArgumentName::Penalty,
+    ArgumentName::PlanFile,
+    ArgumentName::Budget,
+    ArgumentName::Input,
+    ArgumentName::Output,
+];
+
+static INTERRUPTS: [ArgumentName; 11] = [
+    ArgumentName::Source,
+    ArgumentName::From,
+    ArgumentName::To,
+    ArgumentName::Step,
+    ArgumentName::Pairs,
+    ArgumentName::Rows,
+    ArgumentName::SweepForm,
+    ArgumentName::PlanFile,
+    ArgumentName::Budget,
+    ArgumentName::Input,
+    ArgumentName::Output,
+];
+
+static TRACE: [ArgumentName; 8] = [
+    ArgumentName::Source,
+    ArgumentName::TraceForm,
+    ArgumentName::Scheduler,
+    ArgumentName::PlanFile,
+    ArgumentName::Budget,
+    ArgumentName::Interrupts,
+    ArgumentName::Input,
+    ArgumentName::Output,
+];
+
+static PLANS: [ArgumentName; 7] = [
+    ArgumentName::Source,
+    ArgumentName::PlansFile,
+    ArgumentName::PrintFlag,
+    ArgumentName::Budget,
+    ArgumentName::Interrupts,
+    ArgumentName::Input,
+    ArgumentName::Output,
+];
+
+static BUILD: [ArgumentName; 3] = [
+    ArgumentName::Source,
+    ArgumentName::WrittenImage,
+    ArgumentName::LinkedPlans,
+];
+
+static DEBUG: [ArgumentName; 9] = [
+    ArgumentName::Source,
+    ArgumentName::Label,
+    ArgumentName::LinkedPlans,
+    ArgumentName::Stops,
+    ArgumentName::Watch,
+    ArgumentName::SessionBudget,
+    ArgumentName::Interrupts,
+    ArgumentName::Input,
+    ArgumentName::Output,
+];
+
+static CERTIFY: [ArgumentName; 2] = [ArgumentName::Source, ArgumentName::Output];
+
+static VERIFY: [ArgumentName; 4] = [
+    ArgumentName::Source,
+    ArgumentName::Image,
+    ArgumentName::Certificate,
+    ArgumentName::Output,
+];
+
+impl CommandName {
+    /// Its arguments, in the order in which help lists them: the positional ones come first.
+    pub fn arguments(self) -> &'static [ArgumentName] {
+        match self {
+            CommandName::Draw => &DRAW,
+            CommandName::Check => &CHECK,
+            CommandName::Explain => &EXPLAIN,
+            CommandName::Profile => &PROFILE,
+            CommandName::Compare => &COMPARE,
+            CommandName::Disassemble => &DISASSEMBLE,
+            CommandName::Blocks => &BLOCKS,
+            CommandName::Caches => &CACHES,
+            CommandName::Interrupts => &INTERRUPTS,
+            CommandName::Trace => &TRACE,
+            CommandName::Plans => &PLANS,
+            CommandName::Build => &BUILD,
+            CommandName::Debug => &DEBUG,
+            CommandName::Certify => &CERTIFY,
+            CommandName::Verify => &VERIFY,
         }
     }
-    None
+
+    /// What help says of it.
+    pub fn about(self) -> &'static str {
+        ABOUT[self as usize]
+    }
+}
+
+// What help says of the commands, in the order of their names above.
+static ABOUT: [&str; 15] = [
+    "shows the blocks of a source, their dependences and the lengths of their plans",
+    "writes a source that is linked by plans from a file as an image file",
+    "measures a run with other caches",
+    "prints what shows that the image of a source means it",
+    "shows every faulty line of a source, or of several modules, and what is wrong with it",
+    "compares what four schedulers make of a source, or of several",
+    "stops a source that is linked by plans from a file each time that it comes to a label",
+    "lists the words of a source or an image file in assembly language",
+    "draws the instructions of a run by its cycles",
+    "compares a run with the sequential semantics",
+    "measures what an interrupt costs in each cycle of a run",
+    "runs a source by plans from a file",
+    "measures what each part of a source costs in a run",
+    "prints each turn of a run, for programs that replay it",
+    "checks by a certificate that an image means a source",
+];
+
+// The commands, in the order in which help lists them. Another one is added here, in `options.rt` of `lab_options`, in
+// `reading.rt`, and where it is answered, in `top.rt` of `lab_command`.
+static COMMANDS: [WordRow<CommandName>; 15] = [
+    WordRow {
+        word: "draw",
+        means: CommandName::Draw,
+    },
+    WordRow {
+        word: "check",
+        means: CommandName::Check,
+    },
+    WordRow {
+        word: "explain",
+        means: CommandName::Explain,
+    },
+    WordRow {
+        word: "profile",
+        means: CommandName::Profile,
+    },
+    WordRow {
+        word: "compare",
+        means: CommandName::Compare,
+    },
+    WordRow {
+        word: "disassemble",
+        means: CommandName::Disassemble,
+    },
+    WordRow {
+        word: "blocks",
+        means: CommandName::Blocks,
+    },
+    WordRow {
+        word: "caches",
+        means: CommandName::Caches,
+    },
+    WordRow {
+        word: "interrupts",
+        means: CommandName::Interrupts,
+    },
+    WordRow {
+        word: "trace",
+        means: CommandName::Trace,
+    },
+    WordRow {
+        word: "plans",
+        means: CommandName::Plans,
+    },
+    WordRow {
+        word: "build",
+        means: CommandName::Build,
+    },
+    WordRow {
+        word: "debug",
+        means: CommandName::Debug,
+    },
+    WordRow {
+        word: "certify",
+        means: CommandName::Certify,
+    },
+    WordRow {
+        word: "verify",
+        means: CommandName::Verify,
+    },
+];
+
+/// The commands, in the order in which help lists them.
+pub(crate) fn commands() -> &'static [WordRow<CommandName>] {
+    &COMMANDS
 }
 
 /// The command of this name, if there is one.
-pub fn command_named(name: &str) -> Option<Command> {
-    command_in(&COMMANDS, name)
+pub(crate) fn command_named(name: &str) -> Option<CommandName> {
+    meaning_in(commands(), name)
 }

@@ -2,7 +2,5 @@
 #![tactic(auto)]
 
 mod outcome;
-mod sides;
 
-pub use outcome::{Answer, Destination, Ended, failed, put_out};
-pub use sides::is_error;
+pub use outcome::{Delivery, Destination, ExitReport, failed, put_out};

@@ -1,15 +1,19 @@
 -- Sources that are linked by a scheduler, or by the plans of a file.
-use Rattle.std.specs.Prelude.{◌≡◌}
+use Rattle.std.specs.Prelude.{◌≡◌, List}
+use Rattle.mx_io.specs.Shelves.{Told, Counts}
+use Rattle.mx_source.specs.SourceValue.{SourceValue}
 use Rattle.mx_plans.specs.Files.{lines_said, marks_of}
+use Rattle.mx_plans.specs.declared.PlanLine.{PlanLine}
 use Rattle.mx_plans.specs.Says.{IsProposed}
 use Rattle.mx_plans.specs.Copies.{as_planned}
 use Rattle.cmd_source.specs.declared.sources.Program.{Program}
+use Rattle.lab_options.specs.declared.options.PlansOf.{PlansOf}
+use Rattle.lab_options.specs.declared.options.PlansOf.TheVariants as asked
 use Rattle.lab_plans.specs.Verdicts.{AreTold}
 use Rattle.lab_runs.specs.declared.planners.FilePlans.{FilePlans}
 use Rattle.lab_runs.specs.declared.planners.Planner.{Planner}
 use Rattle.lab_runs.specs.declared.planners.Planner.TheVariants.{Scheduler, File}
-use Rattle.lab_runs.specs.declared.planners.PlannedProgram.{PlannedProgram}
-use Rattle.lab_runs.specs.declared.schedulers.Scheduler.{Scheduler as Chosen}
+use Rattle.lab_runs.specs.PlanFiles.{ArePlansOf}
 use Rattle.lab_runs.specs.Schedulers.{board, IsLinked, IsLinkedBy}
 
 -- the source is linked by what the lines of a file say, with the copies that they choose, and there is a line for each plan that is not
@@ -23,12 +27,14 @@ abbrev pub IsLinkedAs : Planner → Program → Type 0
 IsLinkedAs (Scheduler s) p = IsLinkedBy s p
 IsLinkedAs (File plans) p = IsLinkedByFile plans p
 
--- a scheduler is the one that was chosen; plans of a file are in its place
-abbrev pub IsInPlaceOf : Chosen → Planner → Type 0
-IsInPlaceOf chosen (Scheduler s) = s ≡ chosen
-IsInPlaceOf chosen (File plans) = Unit {0}
+-- the plans are those of a file with these lines
+abbrev pub IsByLines : List PlanLine → Planner → Type 0
+IsByLines lines (Scheduler s) = ⊥
+IsByLines lines (File plans) = plans.lines.items ≡ lines
 
--- a source that is linked as it says
-pub record IsPlanned (chosen : Chosen) (p : PlannedProgram) : Type 0 where
-  pub linked : IsLinkedAs p.by p.program
-  pub by : IsInPlaceOf chosen p.by
+-- by whose plans it is linked is what was asked for: a scheduler, or the plan file of a name, which was read
+abbrev pub IsAskedFor : Told → PlansOf → SourceValue → Counts → Counts → Planner → Type 0
+IsAskedFor told (asked.Scheduler s) source before after (Scheduler by) = (by ≡ s) × (after ≡ before)
+IsAskedFor told (asked.File name) source before after (File plans) =
+    ArePlansOf told name.now source before after (lines_said plans.lines.items)
+IsAskedFor told _ source before after _ = ⊥

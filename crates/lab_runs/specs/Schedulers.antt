@@ -1,5 +1,4 @@
 -- Sources that are linked by a scheduler.
-use Rattle.std.specs.Prelude.{Bool, true, false}
 use Rattle.mx_blocks.specs.declared.block.Block.{Block}
 use Rattle.mx_blocks.specs.declared.block.Plan.{Plan}
 use Rattle.mx_validate.specs.Padded.{IsPadded}
@@ -11,10 +10,8 @@ pub use Rattle.mx_link.specs.Linked.{IsLinked}
 use Rattle.mx_link.specs.Origins.{Filling}
 pub use Rattle.mx_link.specs.Origins.{from_target, from_nowhere}
 use Rattle.cmd_source.specs.declared.sources.Program.{Program}
-use Rattle.lab_line.specs.declared.table.RunCommand.{RunCommand}
-use Rattle.lab_line.specs.declared.table.RunCommand.TheVariants.{Draw, Profile, Trace}
-use Rattle.lab_runs.specs.declared.schedulers.Scheduler.{Scheduler}
-use Rattle.lab_runs.specs.declared.schedulers.Scheduler.TheVariants as scheduler
+use Rattle.lab_options.specs.declared.options.Scheduler.{Scheduler}
+use Rattle.lab_options.specs.declared.options.Scheduler.TheVariants as scheduler
 
 -- the source is linked as the list scheduler has it
 abbrev pub IsLinkedSource : Program → Type 0
@@ -37,10 +34,3 @@ fills scheduler.Best = from_target
 -- the source is linked by a scheduler
 abbrev pub IsLinkedBy : Scheduler → Program → Type 0
 IsLinkedBy s p = IsLinked (proposes s) (fills s) p.source board p.linked
-
--- a command that runs what another scheduler makes of a source, where it is asked for
-abbrev pub is_chosen : RunCommand → Bool
-is_chosen Draw = true
-is_chosen Profile = true
-is_chosen Trace = true
-is_chosen _ = false

@@ -1,5 +1,5 @@
 -- Sessions of sources that are linked by the plans of a file.
-use Rattle.std.specs.Prelude.{◌≡◌, ℕ, ◌⊎◌, ◌++◌, List, codes, cond, ltb, length, Option, Some, None, is_some, option_and_then}
+use Rattle.std.specs.Prelude.{◌≡◌, ℕ, Bool, true, List, codes, cond, ltb, length, min, max, Option, Some, None, is_some, option_and_then, option_map}
 use Rattle.mx_isa.specs.Board.{board}
 use Rattle.mx_io.specs.Shelves.{Told, Counts}
 use Rattle.mx_source.specs.declared.Label.{Label}
@@ -11,13 +11,16 @@ use Rattle.mx_link.specs.Origins.{from_nowhere}
 use Rattle.mx_link.specs.Linked.{IsLinked, link_map}
 use Rattle.mx_plans.specs.Files.{LineSaid, marks_of}
 use Rattle.mx_plans.specs.Says.{IsProposed}
-use Rattle.cmd_answer.specs.declared.Status.TheVariants.{Refused}
-use Rattle.cmd_answer.specs.Answer.{Answer, prints, text_line}
+use Rattle.cmd_answer.specs.Answer.{Answer}
 use Rattle.cmd_answer.specs.Protocol.{Performed}
 use Rattle.cmd_options.specs.Options.{Files}
 use Rattle.cmd_options.specs.declared.SessionLimits.{SessionLimits}
 use Rattle.cmd_debug.specs.Sessions.{session_protocol}
-use Rattle.lab_runs.specs.Refusals.{IsTooFar}
+use Rattle.lab_options.specs.declared.options.DebugOptions.{DebugOptions}
+use Rattle.lab_runs.specs.declared.stimulus.Stimulus.{Stimulus}
+use Rattle.lab_runs.specs.PlanFiles.{ArePlansOf}
+use Rattle.lab_runs.specs.Sources.{IsSourceOf}
+use Rattle.lab_runs.specs.Stimuli.{AreGiven}
 
 -- the statement of a source of so many at which a label stands, if it is a code label and one stands there
 abbrev pub statement_at : ℕ → Label → Option ℕ
@@ -28,19 +31,50 @@ statement_at count (Data a) = None
 abbrev pub statement_named : SourceValue → List ℕ → Option ℕ
 statement_named source name = option_and_then (statement_at (length source.statements)) (label_named source.labels name)
 
-abbrev pub no_label_line : List ℕ → List ℕ
-no_label_line name = text_line (codes "no code label " ++ name)
+-- the limits that the options ask for, each held within its range
+abbrev pub limits_of : DebugOptions → SessionLimits
+limits_of options = record {
+  stops = max 1 (min options.stops 1000);
+  watch = max 256 (min options.watch 65535);
+  budget = min options.budget 100000000;
+}
+
+-- the files of a session, by the names that they have in memory
+abbrev pub session_files : Files
+session_files = record { interrupts = Some (codes "interrupts"); input = Some (codes "input") }
+
+-- the answer is that of the session with an image, stopped at an address, which reads the cycles and the input from a shelf that holds them
+-- and counts no fault
+pub record IsSessionOf (code user_data : List ℕ) (asks : Bool) (address : ℕ) (cycles input : List ℕ) (limits : SessionLimits) (answer : Answer) : Type 0 where
+  pub told : Told
+  pub before : Counts
+  pub after : Counts
+  pub tells : told.tells ≡ true
+  pub cycles_held : told.held (codes "interrupts") ≡ Some cycles
+  pub input_held : told.held (codes "input") ≡ Some input
+  pub quiet : after.faults ≡ 0
+  pub performed : Performed told (session_protocol session_files limits code user_data asks address) before after answer
 
 -- the session of the source, linked without copies by what the lines say, is stopped at the link of a statement
-pub record IsSession (source : SourceValue) (lines : List LineSaid) (index : ℕ) (files : Files) (limits : SessionLimits)
-    (shelf : Told) (before after : Counts) (answer : Answer) : Type 0 where
+pub record IsSession (source : SourceValue) (lines : List LineSaid) (index : ℕ) (cycles input : List ℕ) (limits : SessionLimits)
+    (answer : Answer) : Type 0 where
   pub linked : Linked
   pub is : IsLinked (IsProposed source (marks_of lines)) from_nowhere source board linked
-  pub performed : Performed shelf
-      (session_protocol files limits linked.image.code.items linked.image.user_data.items (is_some source.input) (link_map board is.sites index))
-      before after answer
+  pub session : IsSessionOf linked.image.code.items linked.image.user_data.items (is_some source.input) (link_map board is.sites index)
+      cycles input limits answer
 
--- refused before a file is read, or the session
-abbrev pub IsStopped : SourceValue → List LineSaid → ℕ → Files → SessionLimits → Told → Counts → Counts → Answer → Type 0
-IsStopped source lines index files limits shelf before after answer =
-    (IsTooFar source lines answer × (after ≡ before)) ⊎ IsSession source lines index files limits shelf before after answer
+-- the named source, plan file and files of the run were read, and the answer is the session at the named label
+pub record IsDebugOf (told : Told) (options : DebugOptions) (before after : Counts) (answer : Answer) : Type 0 where
+  pub text : List ℕ
+  pub source : SourceValue
+  pub lines : List LineSaid
+  pub index : ℕ
+  pub stimulus : Stimulus
+  pub read : Counts
+  pub planned : Counts
+  pub source_is : IsSourceOf told options.source.now before read text source
+  pub labelled : statement_named source options.label.now ≡ Some index
+  pub plans : ArePlansOf told options.plans.now source read planned lines
+  pub given : AreGiven told (option_map (λ s. s.now) options.stimulus.interrupts) (option_map (λ s. s.now) options.stimulus.input)
+      planned after stimulus
+  pub session : IsSession source lines index stimulus.cycles.items stimulus.input.items (limits_of options) answer

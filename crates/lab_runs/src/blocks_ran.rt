@@ -1,18 +1,13 @@
 //! How often the blocks of a source run.
 ghost use Rattle.std.specs.Prelude.{◌≡◌, ◌<◌, ℕ, IfOk, length, map, slice_index};
 ghost use Rattle.lab_profile.specs.Tallies.{IsProfile};
-ghost use Rattle.lab_runs.specs.Schedulers.{IsLinkedSource};
-ghost use Rattle.lab_runs.specs.Runs.{loaded};
+ghost use Rattle.lab_runs.specs.Runs.{loaded, IsRunOf};
 ghost use Rattle.lab_runs.specs.Ran.{executed_in, HaveRun, AreOfRun, words_of};
 
-use crate::planners::Planner;
-use crate::runs::GivenRun;
-use crate::schedulers::Scheduler;
-use crate::stimulus::read_stimulus;
-use cmd_answer::Failure;
-use cmd_source::{Program, read_program};
+use crate::runs::{GivenRun, read_run};
 use lab_blocks::{Facts, source_blocks};
-use lab_line::Asked;
+use lab_failure::LabFailure;
+use lab_options::RunOptions;
 use lab_profile::{LineCost, Profile, line_costs, profile_of};
 use lab_watch::Watcher;
 use mx_io::{Memory, Shelf};
@@ -25,8 +20,12 @@ pub struct RanBlocks {
     pub halted: bool,
 }
 
-// The profile of a run.
-fn profile_in<W: Watcher>(alloc: Global, run: &GivenRun, watcher: W) -> Result<Profile, Memory>
+/// The profile of a run.
+pub(crate) fn profile_in<W: Watcher>(
+    alloc: Global,
+    run: &GivenRun,
+    watcher: W,
+) -> Result<Profile, Memory>
     ensures { IfOk result (IsProfile (loaded run.now) run.now.stimulus.requests (words_of run.now) run.now.budget) }
 {
     let image = &run.program.linked.image;
@@ -85,39 +84,18 @@ fn blocks_of<W: Watcher>(alloc: Global, run: &GivenRun, watcher: W) -> Result<Ra
     })
 }
 
-// A source that is linked as `run` has it, with what the words give its run, or the reply to the first of these that is wrong.
-fn given_run<S: Shelf>(asked: &Asked, shelf: &mut S, program: Program) -> Result<GivenRun, Failure>
-    requires { IsLinkedSource program }
-    ensures { IfOk result (λ run. IsLinkedSource run.program) }
-{
-    let stimulus = read_stimulus(asked, shelf)?;
-    Ok(GivenRun {
-        program,
-        by: Planner::Scheduler(Scheduler::Copies),
-        stimulus,
-        budget: asked.number("budget"),
-    })
-}
-
-// The run of the source that the words name, linked as `run` has it; or the reply to what is wrong.
-fn source_run<S: Shelf>(asked: &Asked, shelf: &mut S) -> Result<GivenRun, Failure>
-    ensures { IfOk result (λ run. IsLinkedSource run.program) }
-{
-    let program = read_program(asked.alloc, shelf, asked.file("SOURCE"))?;
-    given_run(asked, shelf, program)
-}
-
-/// The blocks of the source that the words name, with how often each ran: as often as its first statement was executed, at its own
-/// word or at a copy, in the run of the source under the shipped handler, linked as `run` has it; or the reply to the first of the
-/// words or files that is wrong. A watcher is told how far the run has come.
-pub fn ran_blocks<S: Shelf, W: Watcher>(
-    asked: &Asked,
+/// The blocks of the source that the options name, with how often each ran: as often as its first statement was executed, at its own
+/// word or at a copy, in the run that the options ask for; or what is wrong. A watcher is told how far the run has come.
+pub fn ran_blocks<'w, S: Shelf, W: Watcher>(
+    alloc: Global,
+    options: &RunOptions<'w>,
     shelf: &mut S,
     watcher: W,
-) -> Result<RanBlocks, Failure>
-    ensures { IfOk result (λ ran. (run : GivenRun) × IsLinkedSource run.program × AreOfRun run ran) }
+) -> Result<RanBlocks, LabFailure<'w>>
+    ensures { IfOk result (λ ran. (run : GivenRun) × IsRunOf (S.told shelf.old) options.now (S.counts shelf.old) (S.counts shelf.new) run
+        × AreOfRun run ran) }
 {
-    let run = source_run(asked, shelf)?;
-    let ran = blocks_of(asked.alloc, &run, watcher)?;
+    let run = read_run(alloc, shelf, options)?;
+    let ran = blocks_of(alloc, &run, watcher)?;
     Ok(ran)
 }

@@ -1,13 +1,14 @@
 //! The reply of `caches`.
-use crate::replies::{answered, or_memory, printed, run_status};
-use crate::runs::GivenRun;
-use cmd_answer::{Failure, Reply, Status, line_reply};
+use crate::replies::{or_memory, printed, run_status};
+use crate::runs::{GivenRun, noted_run};
+use cmd_answer::Reply;
 use lab_caches::{Study, caches_json, caches_svg, caches_text, study_of};
-use lab_line::{Asked, Form};
+use lab_failure::LabFailure;
+use lab_options::{CachesOptions, Form};
 use lab_terms::{Geometry, geometries};
 use lab_watch::{Watched, Watcher};
 use mx_icache::LineCache;
-use mx_io::Memory;
+use mx_io::{Memory, Shelf};
 use mx_turn::Turns;
 use std::alloc::Global;
 
@@ -25,39 +26,37 @@ fn study_by<W: Watcher>(
     study_of(alloc, &mut machine, run.budget, geometries)
 }
 
-// What the caches that the words ask for make of a run.
-fn study_in<W: Watcher>(asked: &Asked, run: &GivenRun, watcher: W) -> Result<Study, Memory> {
-    let (line, brings) = (asked.number("line"), asked.number("brings"));
-    match geometries(asked.alloc, line, brings, asked.number("penalty")) {
-        Ok(all) => study_by(asked.alloc, run, all.as_slice(), watcher),
+// What the caches that the options ask for make of a run.
+fn study_in<W: Watcher>(
+    alloc: Global,
+    options: &CachesOptions,
+    run: &GivenRun,
+    watcher: W,
+) -> Result<Study, Memory> {
+    match geometries(alloc, options.line, options.brings, options.penalty) {
+        Ok(all) => study_by(alloc, run, all.as_slice(), watcher),
         Err(_) => Err(Memory),
     }
 }
 
-// The study in the form that the words ask for.
-fn text_of(asked: &Asked, study: &Study) -> Result<Vec<u8>, Memory> {
-    match asked.form() {
-        Form::Json => caches_json(asked.alloc, asked.word("SOURCE"), study),
-        Form::Svg => or_memory(caches_svg(asked.alloc, study)),
-        _ => or_memory(caches_text(asked.alloc, study)),
+// The study in the form that the options ask for.
+fn text_of(alloc: Global, options: &CachesOptions, study: &Study) -> Result<Vec<u8>, Memory> {
+    match options.run.form {
+        Form::Json => caches_json(alloc, options.run.source, study),
+        Form::Svg => or_memory(caches_svg(alloc, study)),
+        _ => or_memory(caches_text(alloc, study)),
     }
 }
 
-/// The words of `caches` are refused where a miss brings more words than a line has.
-pub fn refuse_excess(asked: &Asked) -> Result<(), Failure> {
-    if asked.number("brings") <= asked.number("line") {
-        return Ok(());
-    }
-    let reply = line_reply(asked.alloc, Status::Usage, "--brings is more than --line");
-    Err(answered(reply))
-}
-
-/// The reply to `caches SOURCE`, whose words are not refused.
-pub fn caches_reply<W: Watcher>(
-    asked: &Asked,
-    run: &GivenRun,
+/// The reply to `caches SOURCE`. A line for each plan that is rejected is left in `notes`.
+pub fn caches_reply<'w, S: Shelf, W: Watcher>(
+    alloc: Global,
+    options: &CachesOptions<'w>,
+    shelf: &mut S,
     watcher: W,
-) -> Result<Reply, Failure> {
-    let study = study_in(asked, run, watcher)?;
-    printed(run_status(study.halted), text_of(asked, &study))
+    notes: &mut Vec<u8>,
+) -> Result<Reply, LabFailure<'w>> {
+    let run = noted_run(alloc, shelf, &options.run, notes)?;
+    let study = study_in(alloc, options, &run, watcher)?;
+    printed(run_status(study.halted), text_of(alloc, options, &study))
 }

@@ -1,26 +1,33 @@
 //! The reply of `debug` with a plan file.
-ghost use Rattle.std.specs.Prelude.{◌≡◌, ◌<◌, IfOk, IfErr, IfSome, length, slice_index};
+ghost use Rattle.std.specs.Prelude.{◌≡◌, ◌<◌, ◌^◌, List, IfOk, IfErr, IfSome, length, option_map, slice_index};
 ghost use Rattle.mx_isa.specs.Board.{board};
 ghost use Rattle.mx_layout.specs.Overlong.{IsRefusal};
 ghost use Rattle.mx_link.specs.Origins.{from_nowhere};
 ghost use Rattle.mx_link.specs.Linked.{IsLinked};
-ghost use Rattle.mx_plans.specs.Files.{lines_said, marks_of, marks_of_lines};
+ghost use Rattle.mx_io.specs.Shelves.{Counts};
+ghost use Rattle.mx_plans.specs.Files.{LineSaid, lines_said, marks_of, marks_of_lines};
 ghost use Rattle.mx_plans.specs.Says.{IsProposed};
-ghost use Rattle.cmd_answer.specs.Answer.{prints};
-ghost use Rattle.cmd_answer.specs.Replies.{reply_answer, IfAnswered, OnAnswer};
-ghost use Rattle.cmd_options.specs.Options.{seen_files, IsAsked};
+ghost use Rattle.cmd_answer.specs.Replies.{reply_answer};
+ghost use Rattle.cmd_options.specs.Options.{IsAsked};
+ghost use Rattle.lab_runs.specs.declared.stimulus.Stimulus.{Stimulus as Given};
+ghost use Rattle.lab_runs.specs.PlanFiles.{ArePlansOf};
 ghost use Rattle.lab_runs.specs.Refusals.{IsTooFar};
-ghost use Rattle.lab_runs.specs.Sessions.{statement_at, statement_named, no_label_line, IsStopped};
+ghost use Rattle.lab_runs.specs.Sessions.{statement_at, statement_named, limits_of, IsSessionOf, IsSession, IsDebugOf};
+ghost use Rattle.lab_runs.specs.Stimuli.{AreGiven};
 
 use crate::plan_files::plans_of;
-use crate::replies::unlinked;
-use cmd_answer::{Failure, Reply, Status, line_reply};
+use crate::quiet_files::{INPUT, INTERRUPTS, QuietFiles};
+use crate::sources::{read_source, unlinked};
+use crate::stimulus::Stimulus;
+use crate::stimulus_files::read_stimulus;
+use cmd_answer::{Reply, replied};
 use cmd_debug::debug_image;
 use cmd_options::{RunFiles, SessionLimits};
-use cmd_source::read_source;
-use lab_line::Asked;
+use lab_failure::LabFailure;
+use lab_options::DebugOptions;
 use lab_plans::link_told;
-use mx_io::{Memory, Shelf};
+use mx_code::Image;
+use mx_io::Shelf;
 use mx_isa::BOARD;
 use mx_link::{LinkError, Linked};
 use mx_plans::{PlanLine, link_planned_plain};
@@ -62,17 +69,6 @@ fn statement_named(source: &Source, name: &str) -> Option<u32>
     None
 }
 
-// The reply where no statement stands at a code label of this name.
-fn no_label_reply(alloc: Global, name: &str) -> Result<Reply, Memory>
-    ensures { IfOk result (λ r. reply_answer r ≡ prints Status.Refused (no_label_line name.now)) }
-{
-    let Ok(text) = format!(in alloc; "no code label {name}") else {
-        return Err(Memory);
-    };
-    let reply = line_reply(alloc, Status::Refused, text.as_str())?;
-    Ok(reply)
-}
-
 // Links a source at the board's place without copies by the plans that the lines of a file say. Copies would run before the block
 // that they are of.
 fn linked_plain(alloc: Global, source: &Source, lines: &[PlanLine]) -> Result<Linked, LinkError>
@@ -83,14 +79,19 @@ fn linked_plain(alloc: Global, source: &Source, lines: &[PlanLine]) -> Result<Li
     link_planned_plain(alloc, source, BOARD, lines)
 }
 
-// The same by what the lines say, or the reply to the first branch that does not reach its target.
-fn plain_linked(alloc: Global, source: &Source, lines: &[PlanLine]) -> Result<Linked, Failure>
+// The same by what the lines say, for the source of this name.
+fn plain_linked<'w>(
+    alloc: Global,
+    name: &'w str,
+    source: &Source,
+    lines: &[PlanLine],
+) -> Result<Linked, LabFailure<'w>>
     ensures linked { IfOk result (IsLinked (IsProposed source.now (marks_of (lines_said lines.now))) from_nowhere source.now board) }
-    ensures refused { IfAnswered result (IsTooFar source.now (lines_said lines.now)) }
+    ensures refused { IfErr result (IsTooFar name.entry.now source.now (lines_said lines.now)) }
 {
     match linked_plain(alloc, source, lines) {
         Ok(linked) => Ok(linked),
-        Err(error) => Err(unlinked(alloc, &error)),
+        Err(error) => Err(unlinked(name, error)),
     }
 }
 
@@ -102,86 +103,165 @@ fn link_at(linked: &Linked, index: u32) -> u32
     linked.links[index as usize]
 }
 
-// The reply to a session of a source, linked without copies by the plans that the lines of a file say, at the block of a
-// statement.
-fn stopped_reply<S: Shelf>(
+// The session of an image, stopped at an address, with what comes to its run from outside.
+fn session<'w>(
     alloc: Global,
-    shelf: &mut S,
+    image: &Image,
+    asks: bool,
+    address: u32,
+    stimulus: &Stimulus,
+    limits: &SessionLimits,
+) -> Result<Reply, LabFailure<'w>>
+    requires address { address < 2 ^ 31 }
+    requires asked { IsAsked limits.now }
+    ensures { IfOk result (λ r. IsSessionOf image.now.code.items image.now.user_data.items asks address stimulus.now.cycles.items
+        stimulus.now.input.items limits.now (reply_answer r)) }
+{
+    let cycles = stimulus.cycles.as_slice();
+    let input = stimulus.input.as_slice();
+    let mut shelf = QuietFiles::new(alloc, cycles, input)?;
+    let files = RunFiles {
+        interrupts: Some(INTERRUPTS),
+        input: Some(INPUT),
+    };
+    let outcome = debug_image(alloc, &mut shelf, image, asks, address, &files, limits);
+    let reply = replied(outcome)?;
+    Ok(reply)
+}
+
+// The session of a source that is linked without copies by the plans that the lines of a file say, at a statement.
+fn stopped_reply<'w>(
+    alloc: Global,
+    name: &'w str,
     source: &Source,
     lines: &[PlanLine],
     index: u32,
-    files: &RunFiles,
+    stimulus: &Stimulus,
     limits: &SessionLimits,
-) -> Result<Reply, Failure>
+) -> Result<Reply, LabFailure<'w>>
     requires asked { IsAsked limits.now }
     requires within { index < length source.now.statements }
-    ensures stopped { OnAnswer result (IsStopped source.now (lines_said lines.now) index (seen_files files.now) limits.now
-        (S.told shelf.old) (S.counts shelf.old) (S.counts shelf.new)) }
-    ensures told_stays { S.told shelf.new ≡ S.told shelf.old }
-    ensures writes_stay { S.write_faults shelf.new ≡ S.write_faults shelf.old }
+    ensures stopped { IfOk result (λ r. IsSession source.now (lines_said lines.now) index stimulus.now.cycles.items stimulus.now.input.items
+        limits.now (reply_answer r)) }
 {
-    let linked = plain_linked(alloc, source, lines)?;
+    let linked = plain_linked(alloc, name, source, lines)?;
     let address = link_at(&linked, index);
     let asks = source.input().is_some();
-    debug_image(alloc, shelf, &linked.image, asks, address, files, limits)
+    let reply = session(alloc, &linked.image, asks, address, stimulus, limits)?;
+    Ok(reply)
 }
 
-// What the words ask of a session: the table of commands has the same ranges.
-fn session_limits(asked: &Asked) -> SessionLimits
-    ensures { IsAsked result }
+// What the options ask of a session: the table of commands has the same ranges.
+fn session_limits(options: &DebugOptions) -> SessionLimits
+    ensures asked { IsAsked result }
+    ensures limits { result ≡ limits_of options.now }
 {
     SessionLimits {
-        stops: asked.number("stops").clamp(1, 1000),
-        watch: asked.number("watch").clamp(256, 65_535),
-        budget: asked.number("budget").min(100_000_000),
+        stops: options.stops.clamp(1, 1000),
+        watch: options.watch.clamp(256, 65_535),
+        budget: options.budget.min(100_000_000),
     }
 }
 
-// Leaves a line in `notes` for each plan of a file that is rejected for a source.
-fn note_rejected(
+// Leaves a line in `notes` for each plan of a file that is rejected for the source of this name.
+fn note_rejected<'w>(
     alloc: Global,
+    name: &'w str,
     source: &Source,
     lines: &[PlanLine],
     notes: &mut Vec<u8>,
-) -> Result<(), Failure> {
+) -> Result<(), LabFailure<'w>> {
     match link_told(alloc, source, lines) {
         Ok(told) => Ok(notes.extend_from_slice(told.rejections.as_slice())?),
-        Err(error) => Err(unlinked(alloc, &error)),
+        Err(error) => Err(unlinked(name, error)),
     }
 }
 
-// The reply to a session of a source at the block of a statement.
-fn labelled_reply<S: Shelf>(
-    asked: &Asked,
+// The lines of the plan file that the options name for a source that is linked by them; those that are rejected are noted.
+fn read_lines<'w, S: Shelf>(
+    alloc: Global,
+    options: &DebugOptions<'w>,
+    shelf: &mut S,
+    source: &Source,
+    notes: &mut Vec<u8>,
+) -> Result<Vec<PlanLine>, LabFailure<'w>>
+    ensures read { IfOk result (λ lines. ArePlansOf (S.told shelf.old) options.now.plans.now source.now (S.counts shelf.old) (S.counts shelf.new)
+        (lines_said lines.items)) }
+    ensures told_stays { S.told shelf.new ≡ S.told shelf.old }
+{
+    let lines = plans_of(alloc, shelf, source, options.plans)?;
+    note_rejected(alloc, options.source, source, lines.as_slice(), notes)?;
+    Ok(lines)
+}
+
+// The session of a source at a statement, with what the named files give.
+fn labelled_reply<'w, S: Shelf>(
+    alloc: Global,
+    options: &DebugOptions<'w>,
+    shelf: &mut S,
+    source: &Source,
+    lines: &[PlanLine],
+    index: u32,
+) -> Result<Reply, LabFailure<'w>>
+    requires { index < length source.now.statements }
+    ensures { IfOk result (λ r. (stimulus : Given) × AreGiven (S.told shelf.old) (option_map (λ s. s.now) options.now.stimulus.interrupts)
+        (option_map (λ s. s.now) options.now.stimulus.input) (S.counts shelf.old) (S.counts shelf.new) stimulus
+        × IsSession source.now (lines_said lines.now) index stimulus.cycles.items stimulus.input.items (limits_of options.now) (reply_answer r)) }
+{
+    let stimulus = read_stimulus(alloc, shelf, options.stimulus)?;
+    let limits = session_limits(options);
+    let reply = stopped_reply(
+        alloc,
+        options.source,
+        source,
+        lines,
+        index,
+        &stimulus,
+        &limits,
+    )?;
+    Ok(reply)
+}
+
+// The session of a source at a statement, by the named files.
+fn session_reply<'w, S: Shelf>(
+    alloc: Global,
+    options: &DebugOptions<'w>,
     shelf: &mut S,
     source: &Source,
     index: u32,
     notes: &mut Vec<u8>,
-) -> Result<Reply, Failure>
+) -> Result<Reply, LabFailure<'w>>
     requires { index < length source.now.statements }
+    ensures { IfOk result (λ r. (lines : List LineSaid) × (stimulus : Given) × (planned : Counts)
+        × ArePlansOf (S.told shelf.old) options.now.plans.now source.now (S.counts shelf.old) planned lines
+        × AreGiven (S.told shelf.old) (option_map (λ s. s.now) options.now.stimulus.interrupts)
+        (option_map (λ s. s.now) options.now.stimulus.input) planned (S.counts shelf.new) stimulus
+        × IsSession source.now lines index stimulus.cycles.items stimulus.input.items (limits_of options.now) (reply_answer r)) }
 {
-    let lines = plans_of(asked.alloc, shelf, source, asked.word("plans"))?;
-    note_rejected(asked.alloc, source, lines.as_slice(), notes)?;
-    let files = RunFiles {
-        interrupts: asked.file_if_any("interrupts"),
-        input: asked.file_if_any("input"),
-    };
-    let limits = session_limits(asked);
-    let alloc = asked.alloc;
-    stopped_reply(alloc, shelf, source, &lines, index, &files, &limits)
+    let lines = read_lines(alloc, options, shelf, source, notes)?;
+    let reply = labelled_reply(alloc, options, shelf, source, lines.as_slice(), index)?;
+    Ok(reply)
 }
 
 /// The reply to `debug SOURCE LABEL --plans FILE`: a source is refused by its first fault, then by its label, then the plan file is
-/// read. A line for each plan that is rejected is left in `notes`.
-pub fn debug_reply<S: Shelf>(
-    asked: &Asked,
+/// read, then what comes to the run from outside. A line for each plan that is rejected is left in `notes`.
+pub fn debug_reply<'w, S: Shelf>(
+    alloc: Global,
+    options: &DebugOptions<'w>,
     shelf: &mut S,
     notes: &mut Vec<u8>,
-) -> Result<Reply, Failure> {
-    let source = read_source(asked.alloc, shelf, asked.file("SOURCE"))?;
-    let label = asked.word("LABEL");
-    match statement_named(&source, label) {
-        Some(index) => labelled_reply(asked, shelf, &source, index, notes),
-        None => Ok(no_label_reply(asked.alloc, label)?),
+) -> Result<Reply, LabFailure<'w>>
+    ensures { IfOk result (λ r. IsDebugOf (S.told shelf.old) options.now (S.counts shelf.old) (S.counts shelf.new) (reply_answer r)) }
+{
+    let source = read_source(alloc, shelf, options.source)?;
+    match statement_named(&source, options.label) {
+        Some(index) => {
+            let reply = session_reply(alloc, options, shelf, &source, index, notes)?;
+            Ok(reply)
+        }
+        None => Err(LabFailure::NoLabel {
+            name: options.source,
+            label: options.label,
+        }),
     }
 }

@@ -1,16 +1,19 @@
 //! The reply of `draw`.
 ghost use Rattle.std.specs.Prelude.{◌≤◌, ◌+◌, IfOk};
 ghost use Rattle.lab_draw.specs.Frames.{IsDrawing};
+ghost use Rattle.cmd_answer.specs.Replies.{reply_answer};
 ghost use Rattle.lab_runs.specs.Runs.{loaded};
+ghost use Rattle.lab_runs.specs.Replied.{SpeaksOf};
 
 use crate::replies::{or_memory, printed};
-use crate::runs::GivenRun;
-use cmd_answer::{Failure, Reply, Status};
+use crate::runs::{GivenRun, noted_run};
+use cmd_answer::{Reply, Status};
 use lab_draw::{Drawing, draw, rows_of};
-use lab_line::{Asked, Form};
+use lab_failure::LabFailure;
+use lab_options::{DrawOptions, Form};
 use lab_pictures::{PlaceNames, Subject, html, json, kanata, svg, text, vcd};
 use lab_watch::Watcher;
-use mx_io::Memory;
+use mx_io::{Memory, Shelf};
 use std::alloc::Global;
 
 // Which cycles are drawn: the first one, and how many.
@@ -21,13 +24,13 @@ struct Span {
     budget: u32,
 }
 
-// The cycles that the words ask for, within the budget.
-fn span_given(asked: &Asked) -> Span
+// The cycles that the options ask for, within the budget.
+fn span_given(options: &DrawOptions) -> Span
     ensures { result.from + result.count ≤ result.budget }
 {
-    let budget = asked.number("budget");
-    let from = asked.number("from").min(budget);
-    let count = asked.number("cycles").min(budget - from);
+    let budget = options.run.budget;
+    let from = options.from.min(budget);
+    let count = options.cycles.min(budget - from);
     Span {
         from,
         count,
@@ -69,9 +72,10 @@ fn form_of(alloc: Global, form: Form, subject: &Subject) -> Result<Vec<u8>, Memo
     })
 }
 
-// The picture of a drawing, in the form that the words ask for, with these names of places.
+// The picture of a drawing, in the form that the options ask for, with these names of places.
 fn named_picture(
-    asked: &Asked,
+    alloc: Global,
+    options: &DrawOptions,
     run: &GivenRun,
     names: &PlaceNames,
     drawing: &Drawing,
@@ -79,7 +83,7 @@ fn named_picture(
 ) -> Result<Vec<u8>, Memory> {
     let program = &run.program;
     let subject = Subject {
-        file: asked.word("SOURCE"),
+        file: options.run.source,
         text: program.text.as_slice(),
         lines: program.source.lines(),
         linked: &program.linked,
@@ -89,12 +93,13 @@ fn named_picture(
         budget: span.budget,
         drawing,
     };
-    form_of(asked.alloc, asked.form(), &subject)
+    form_of(alloc, options.run.form, &subject)
 }
 
-// The picture of a drawing of a run, in the form that the words ask for.
+// The picture of a drawing of a run, in the form that the options ask for.
 fn picture_with(
-    asked: &Asked,
+    alloc: Global,
+    options: &DrawOptions,
     run: &GivenRun,
     drawing: &Drawing,
     span: Span,
@@ -102,20 +107,35 @@ fn picture_with(
     let program = &run.program;
     let links = program.linked.links.as_slice();
     let words = program.linked.image.code.len();
-    match PlaceNames::new(asked.alloc, &program.source, links, words) {
-        Ok(names) => named_picture(asked, run, &names, drawing, span),
+    match PlaceNames::new(alloc, &program.source, links, words) {
+        Ok(names) => named_picture(alloc, options, run, &names, drawing, span),
         Err(_) => Err(Memory),
     }
 }
 
-// The picture of the cycles of a run that the words ask for.
-fn picture_of<W: Watcher>(asked: &Asked, run: &GivenRun, watcher: W) -> Result<Vec<u8>, Memory> {
-    let span = span_given(asked);
-    let drawing = drawing_of(asked.alloc, run, span, watcher)?;
-    picture_with(asked, run, &drawing, span)
+// The picture of the cycles of a run that the options ask for.
+fn picture_of<W: Watcher>(
+    alloc: Global,
+    options: &DrawOptions,
+    run: &GivenRun,
+    watcher: W,
+) -> Result<Vec<u8>, Memory> {
+    let span = span_given(options);
+    let drawing = drawing_of(alloc, run, span, watcher)?;
+    picture_with(alloc, options, run, &drawing, span)
 }
 
-/// The reply to `draw SOURCE`.
-pub fn draw_reply<W: Watcher>(asked: &Asked, run: &GivenRun, watcher: W) -> Result<Reply, Failure> {
-    printed(Status::Done, picture_of(asked, run, watcher))
+/// The reply to `draw SOURCE`. A line for each plan that is rejected is left in `notes`.
+pub fn draw_reply<'w, S: Shelf, W: Watcher>(
+    alloc: Global,
+    options: &DrawOptions<'w>,
+    shelf: &mut S,
+    watcher: W,
+    notes: &mut Vec<u8>,
+) -> Result<Reply, LabFailure<'w>>
+    ensures { IfOk result (λ r. SpeaksOf (S.told shelf.old) options.now.run (S.counts shelf.old) (S.counts shelf.new) (λ _. Status.Done) (reply_answer r)) }
+{
+    let run = noted_run(alloc, shelf, &options.run, notes)?;
+    let reply = printed(Status::Done, picture_of(alloc, options, &run, watcher))?;
+    Ok(reply)
 }

@@ -1,16 +1,19 @@
 //! The reply of `explain`.
-ghost use Rattle.std.specs.Prelude.{◌≡◌, IfOk};
+ghost use Rattle.std.specs.Prelude.{◌≡◌, if◌then◌else◌, IfOk};
 ghost use Rattle.mx_turn.specs.Run.{run_of};
+ghost use Rattle.cmd_answer.specs.Replies.{reply_answer};
 ghost use Rattle.lab_runs.specs.Runs.{loaded};
+ghost use Rattle.lab_runs.specs.Replied.{SpeaksOf, ends_by};
 
 use crate::replies::{or_memory, printed};
-use crate::runs::GivenRun;
-use cmd_answer::{Failure, Reply, Status};
+use crate::runs::{GivenRun, noted_run};
+use cmd_answer::{Reply, Status};
 use lab_explain::{Explained, explained_json, explained_text};
-use lab_line::{Asked, Form};
+use lab_failure::LabFailure;
+use lab_options::{Form, RunOptions};
 use lab_measures::{Ran, Standing, run_machine, stand};
 use lab_watch::Watcher;
-use mx_io::Memory;
+use mx_io::{Memory, Shelf};
 use mx_lines::lines_of;
 use std::alloc::{AllocError, Global};
 
@@ -24,18 +27,19 @@ fn line_at(alloc: Global, text: &[u8], number: u32) -> Result<&[u8], AllocError>
     Ok(lines.get(place).copied().unwrap_or(&[]))
 }
 
-// What is told of a run and a meaning, in the form that the words ask for.
+// What is told of a run and a meaning, in the form that the options ask for.
 fn told(
-    asked: &Asked,
+    alloc: Global,
+    options: &RunOptions,
     run: &GivenRun,
     standing: Standing,
     ran: Ran,
 ) -> Result<Vec<u8>, AllocError> {
     let index = standing.index as usize;
     let line = run.program.source.lines().get(index).copied().unwrap_or(0);
-    let text = line_at(asked.alloc, &run.program.text, line)?;
+    let text = line_at(alloc, &run.program.text, line)?;
     let explained = Explained {
-        file: asked.word("SOURCE"),
+        file: options.source,
         standing,
         steps: run.budget.saturating_add(STATEMENTS_AHEAD),
         ran,
@@ -44,14 +48,16 @@ fn told(
         line,
         text,
     };
-    match asked.form() {
-        Form::Json => explained_json(asked.alloc, &explained),
-        _ => explained_text(asked.alloc, &explained),
+    match options.form {
+        Form::Json => explained_json(alloc, &explained),
+        _ => explained_text(alloc, &explained),
     }
 }
 
 // The status of a run, as `run` has it.
-fn status_of(ran: &Ran) -> Status {
+fn status_of(ran: &Ran) -> Status
+    ensures { result ≡ if ran.now.halted then Status.Halted else Status.OutOfBudget }
+{
     if ran.halted {
         Status::Halted
     } else {
@@ -69,15 +75,35 @@ fn source_run<W: Watcher>(alloc: Global, run: &GivenRun, watcher: W) -> Result<R
     Ok(ran)
 }
 
-/// The reply to `explain SOURCE`.
-pub fn explain_reply<W: Watcher>(
-    asked: &Asked,
+// The reply that tells of a run and of the meaning of its source.
+fn run_reply<'w, W: Watcher>(
+    alloc: Global,
+    options: &RunOptions<'w>,
     run: &GivenRun,
     watcher: W,
-) -> Result<Reply, Failure> {
+) -> Result<Reply, LabFailure<'w>>
+    ensures { IfOk result (λ r. (reply_answer r).status ≡ ends_by Status.Halted Status.OutOfBudget run.now) }
+{
     let steps = run.budget.saturating_add(STATEMENTS_AHEAD);
     let input = run.stimulus.input.as_slice();
-    let standing = stand(asked.alloc, &run.program.source, input, steps)?;
-    let ran = source_run(asked.alloc, run, watcher)?;
-    printed(status_of(&ran), or_memory(told(asked, run, standing, ran)))
+    let standing = stand(alloc, &run.program.source, input, steps)?;
+    let ran = source_run(alloc, run, watcher)?;
+    let status = status_of(&ran);
+    let reply = printed(status, or_memory(told(alloc, options, run, standing, ran)))?;
+    Ok(reply)
+}
+
+/// The reply to `explain SOURCE`.
+pub fn explain_reply<'w, S: Shelf, W: Watcher>(
+    alloc: Global,
+    options: &RunOptions<'w>,
+    shelf: &mut S,
+    watcher: W,
+    notes: &mut Vec<u8>,
+) -> Result<Reply, LabFailure<'w>>
+    ensures { IfOk result (λ r. SpeaksOf (S.told shelf.old) options.now (S.counts shelf.old) (S.counts shelf.new) (ends_by Status.Halted Status.OutOfBudget) (reply_answer r)) }
+{
+    let run = noted_run(alloc, shelf, options, notes)?;
+    let reply = run_reply(alloc, options, &run, watcher)?;
+    Ok(reply)
 }

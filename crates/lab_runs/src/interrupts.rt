@@ -2,54 +2,45 @@
 ghost use Rattle.std.specs.Prelude.{◌≡◌, ◌≤◌, ◌<◌, [], IfOk};
 ghost use Rattle.mx_turn.specs.Run.{run_of};
 ghost use Rattle.lab_runs.specs.Runs.{loaded};
+ghost use Rattle.lab_runs.specs.Sweeps.{AreRowsOf, IsSweepOf};
 
-use crate::replies::{or_memory, printed, refused, run_status};
-use crate::runs::GivenRun;
-use cmd_answer::{Failure, Reply, Status};
-use lab_line::{Asked, Form};
+use crate::replies::{or_memory, printed, run_status};
+use crate::runs::{GivenRun, noted_run};
+use cmd_answer::Reply;
+use lab_failure::LabFailure;
+use lab_options::{ArgumentFault, Form, MOST_RUNS, SweepOptions};
 use lab_measures::{Row, Span, Sweep, Swept, cycles_in, pairs, singles};
 use lab_tables::{Places, places_of, sweep_csv, sweep_json, sweep_text};
 use lab_watch::Watcher;
 use mx_board::Requests;
-use mx_io::Memory;
+use mx_io::{Memory, Shelf};
 use mx_report::{Driven, drive};
 use std::alloc::Global;
-
-/// The most runs.
-const MOST_RUNS: u64 = 100_000;
 
 /// The most cycles of which each two make a run.
 const MOST_PAIRED: u64 = 447;
 
-// The reply where the first cycle is behind one that bounds it.
-fn refuse_first(alloc: Global, from: u32, bounded: &str, cycle: u32) -> Failure {
-    let line = format!(in alloc; "--from {from} is {bounded} {cycle}");
-    refused(alloc, Status::Usage, line)
-}
-
-// The cycles that the words ask for, of a run whose last cycle is this one; or the reply where there are none.
-fn span_given(asked: &Asked, last: u32) -> Result<Span, Failure>
+// The cycles that the options ask for, of a run whose last cycle is this one.
+fn span_given<'w>(options: &SweepOptions, last: u32) -> Result<Span, ArgumentFault<'w>>
     ensures { IfOk result (λ span. 0 < span.step) }
 {
-    let alloc = asked.alloc;
-    let from = asked.number("from");
-    let to = asked.matches.get_one::<u32>("to").unwrap_or(last);
+    let from = options.from;
+    let to = options.to.unwrap_or(last);
     if from > last {
-        let bounded = "behind the last cycle of the undisturbed run,";
-        return Err(refuse_first(alloc, from, bounded, last));
+        return Err(ArgumentFault::AfterLast { from, last });
     }
     if from > to {
-        return Err(refuse_first(alloc, from, "more than --to", to));
+        return Err(ArgumentFault::AfterTo { from, to });
     }
     Ok(Span {
         from,
         to: to.min(last),
-        step: asked.number("step").max(1),
+        step: options.step.max(1),
     })
 }
 
-// The reply where a span makes too many runs.
-fn refuse_excess(alloc: Global, span: Span, is_pairs: bool) -> Result<(), Failure> {
+// A span may not make too many runs.
+fn refuse_excess<'w>(span: Span, is_pairs: bool) -> Result<(), ArgumentFault<'w>> {
     let (runs, most) = if is_pairs {
         (span.pairs(), MOST_PAIRED)
     } else {
@@ -60,10 +51,7 @@ fn refuse_excess(alloc: Global, span: Span, is_pairs: bool) -> Result<(), Failur
     }
     let behind = u64::from(span.to.saturating_sub(span.from));
     let step = behind.checked_div(most).unwrap_or(0).saturating_add(1);
-    let line = format!(in alloc;
-        "{runs} runs are more than {MOST_RUNS}: --step {step} makes fewer"
-    );
-    Err(refused(alloc, Status::Usage, line))
+    Err(ArgumentFault::TooManyRuns { runs, step })
 }
 
 /// What is told of: in which cycles requests come, and whether they come in each two of these.
@@ -91,13 +79,13 @@ fn last_cycle(run: &GivenRun, undisturbed: &Driven) -> u32 {
     cycles.min(u64::from(run.budget)) as u32
 }
 
-// What the words ask for of a run whose last cycle is this one, or the reply to what is wrong with them.
-fn sought_in(asked: &Asked, last: u32) -> Result<Sought, Failure>
+// What the options ask of a run whose last cycle is this one.
+fn sought_in<'w>(options: &SweepOptions, last: u32) -> Result<Sought, ArgumentFault<'w>>
     ensures { IfOk result (λ sought. 0 < sought.span.step) }
 {
-    let span = span_given(asked, last)?;
-    let is_pairs = asked.flag("pairs");
-    refuse_excess(asked.alloc, span, is_pairs)?;
+    let span = span_given(options, last)?;
+    let is_pairs = options.is_pairs;
+    refuse_excess(span, is_pairs)?;
     Ok(Sought { span, is_pairs })
 }
 
@@ -109,7 +97,9 @@ fn rows_of<W: Watcher>(
     sought: &Sought,
     cycles: &[u32],
     watcher: W,
-) -> Result<Vec<Row>, Memory> {
+) -> Result<Vec<Row>, Memory>
+    ensures { IfOk result (λ rows. AreRowsOf run.now undisturbed.now.console.items sought.now.is_pairs cycles.now rows.items) }
+{
     let swept = Swept {
         image: &run.program.linked.image,
         input: run.asked_input(),
@@ -118,9 +108,11 @@ fn rows_of<W: Watcher>(
         cycles,
     };
     if sought.is_pairs {
-        pairs(alloc, &swept, watcher)
+        let rows = pairs(alloc, &swept, watcher)?;
+        Ok(rows)
     } else {
-        singles(alloc, &swept, watcher)
+        let rows = singles(alloc, &swept, watcher)?;
+        Ok(rows)
     }
 }
 
@@ -131,10 +123,13 @@ fn sweep_of<W: Watcher>(
     undisturbed: &Driven,
     sought: &Sought,
     watcher: W,
-) -> Result<Sweep, Failure>
+) -> Result<Sweep, Memory>
     requires { 0 < sought.now.span.step }
+    ensures { IfOk result (IsSweepOf run.now undisturbed.now sought.now) }
 {
-    let cycles = cycles_in(alloc, sought.span)?;
+    let Ok(cycles) = cycles_in(alloc, sought.span) else {
+        return Err(Memory);
+    };
     let rows = rows_of(alloc, run, undisturbed, sought, cycles.as_slice(), watcher)?;
     Ok(Sweep {
         cycles: undisturbed.counts.cycles,
@@ -145,23 +140,33 @@ fn sweep_of<W: Watcher>(
     })
 }
 
-// A sweep of a source in the form that the words ask for.
-fn form_of(asked: &Asked, text: &[u8], sweep: &Sweep, places: &Places) -> Result<Vec<u8>, Memory> {
-    let alloc = asked.alloc;
-    let source = asked.word("SOURCE");
-    match asked.form() {
+// A sweep of a source in the form that the options ask for.
+fn form_of(
+    alloc: Global,
+    options: &SweepOptions,
+    text: &[u8],
+    sweep: &Sweep,
+    places: &Places,
+) -> Result<Vec<u8>, Memory> {
+    let source = options.run.source;
+    match options.run.form {
         Form::Json => sweep_json(alloc, source, sweep, places),
         Form::Csv => sweep_csv(alloc, source, sweep, places),
-        _ => or_memory(sweep_text(alloc, sweep, places, text, asked.flag("rows"))),
+        _ => or_memory(sweep_text(alloc, sweep, places, text, options.has_rows)),
     }
 }
 
 // The same of a run's source.
-fn text_of(asked: &Asked, run: &GivenRun, sweep: &Sweep) -> Result<Vec<u8>, Memory> {
+fn text_of(
+    alloc: Global,
+    options: &SweepOptions,
+    run: &GivenRun,
+    sweep: &Sweep,
+) -> Result<Vec<u8>, Memory> {
     let program = &run.program;
     let origin = program.linked.origin.as_slice();
-    match places_of(asked.alloc, program.source.lines(), origin) {
-        Ok(places) => form_of(asked, program.text.as_slice(), sweep, &places),
+    match places_of(alloc, program.source.lines(), origin) {
+        Ok(places) => form_of(alloc, options, program.text.as_slice(), sweep, &places),
         Err(_) => Err(Memory),
     }
 }
@@ -177,24 +182,31 @@ fn all_halted(rows: &[Row]) -> bool {
 }
 
 // The reply that tells of runs with requests, beside the run without any.
-fn sweep_reply<W: Watcher>(
-    asked: &Asked,
+fn sweep_reply<'w, W: Watcher>(
+    alloc: Global,
+    options: &SweepOptions<'w>,
     run: &GivenRun,
     undisturbed: &Driven,
     watcher: W,
-) -> Result<Reply, Failure> {
-    let sought = sought_in(asked, last_cycle(run, undisturbed))?;
-    let sweep = sweep_of(asked.alloc, run, undisturbed, &sought, watcher)?;
+) -> Result<Reply, LabFailure<'w>> {
+    let sought = match sought_in(options, last_cycle(run, undisturbed)) {
+        Ok(sought) => sought,
+        Err(fault) => return Err(LabFailure::Arguments(fault)),
+    };
+    let sweep = sweep_of(alloc, run, undisturbed, &sought, watcher)?;
     let halted = sweep.halted && all_halted(sweep.rows.as_slice());
-    printed(run_status(halted), text_of(asked, run, &sweep))
+    printed(run_status(halted), text_of(alloc, options, run, &sweep))
 }
 
-/// The reply to `interrupts SOURCE`.
-pub fn interrupts_reply<W: Watcher>(
-    asked: &Asked,
-    run: &GivenRun,
+/// The reply to `interrupts SOURCE`. A line for each plan that is rejected is left in `notes`.
+pub fn interrupts_reply<'w, S: Shelf, W: Watcher>(
+    alloc: Global,
+    options: &SweepOptions<'w>,
+    shelf: &mut S,
     watcher: W,
-) -> Result<Reply, Failure> {
-    let undisturbed = undisturbed_run(asked.alloc, run, watcher)?;
-    sweep_reply(asked, run, &undisturbed, watcher)
+    notes: &mut Vec<u8>,
+) -> Result<Reply, LabFailure<'w>> {
+    let run = noted_run(alloc, shelf, &options.run, notes)?;
+    let undisturbed = undisturbed_run(alloc, &run, watcher)?;
+    sweep_reply(alloc, options, &run, &undisturbed, watcher)
 }

@@ -1,7 +1,6 @@
-//! The commands that tell of the run of a source: what the words give it, and how each is answered.
+//! The commands that tell of the run of a source: what is read for it, and how each is answered.
 #![tactic(auto)]
 
-mod answers;
 mod blocks_ran;
 mod building;
 mod caches;
@@ -12,16 +11,26 @@ mod interrupts;
 mod plan_files;
 mod planners;
 mod profile;
+mod quiet_files;
 mod replies;
 mod runs;
 mod schedulers;
+mod sources;
 mod stimulus;
+mod stimulus_files;
 mod trace;
 
-pub use answers::run_reply;
 pub use blocks_ran::{RanBlocks, ran_blocks};
 pub use building::build_reply;
+pub use caches::caches_reply;
 pub use debugging::debug_reply;
+pub use draw::draw_reply;
+pub use explain::explain_reply;
+pub use interrupts::interrupts_reply;
 pub use plan_files::plans_of;
-pub use replies::{answered, or_memory, printed, refused, unlinked};
-pub use stimulus::{Stimulus, read_stimulus};
+pub use profile::profile_reply;
+pub use replies::{or_memory, printed};
+pub use sources::{linked_text, read_program, read_source, unlinked};
+pub use stimulus::Stimulus;
+pub use stimulus_files::read_stimulus;
+pub use trace::trace_reply;

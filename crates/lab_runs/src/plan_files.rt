@@ -1,67 +1,61 @@
 //! Plan files.
-ghost use Rattle.std.specs.Prelude.{◌≤◌, length, IfOk};
+ghost use Rattle.std.specs.Prelude.{◌≡◌, ◌≤◌, ℕ, List, IfOk, Ok, length};
 ghost use Rattle.mx_io.specs.declared.limits.TheConstants.{MAX_FILE_BYTES};
+ghost use Rattle.mx_blocks.specs.declared.block.Block.{Block};
+ghost use Rattle.mx_blocks.specs.Leaders.{AreBlocks};
+ghost use Rattle.mx_plans.specs.Files.{lines_said, plans_in};
+ghost use Rattle.lab_runs.specs.PlanFiles.{ArePlansOf};
 
-use crate::replies::refused;
-use cmd_answer::{Failure, Status};
-use lab_line::file_by;
+use lab_failure::{LabFailure, LabFile, LineFault, read_lab_file};
 use mx_blocks::blocks;
-use mx_io::{Shelf, ShelfFault};
+use mx_io::Shelf;
 use mx_plans::{PlanError, PlanLine, read_plans};
 use mx_source::Source;
 use std::alloc::Global;
 
-/// The most bytes of a plan file.
-const MOST_BYTES: usize = 1_048_576;
-
-// The bytes of a plan file, or the reply to its fault, which names it.
-fn read_plan_file<S: Shelf>(alloc: Global, shelf: &mut S, word: &str) -> Result<Vec<u8>, Failure>
-    ensures { IfOk result (λ bytes. length bytes.items ≤ MAX_FILE_BYTES) }
-{
-    let fault = match shelf.read(alloc, file_by(word), MOST_BYTES) {
-        Ok(bytes) => return Ok(bytes),
-        Err(ShelfFault::Failed) => "failed",
-        Err(ShelfFault::TooLong) => "too long",
-        Err(ShelfFault::Memory) => return Err(Failure::Memory),
-    };
-    let line = format!(in alloc; "{word}: read fault: plans {fault}");
-    Err(refused(alloc, Status::ReadFault, line))
-}
-
-// What is wrong with the text of a plan file, which is named.
-fn faulty(alloc: Global, word: &str, error: &PlanError) -> Failure {
-    match *error {
-        PlanError::Memory => Failure::Memory,
-        _ => {
-            let line = format!(in alloc; "{word}: plans {error}");
-            refused(alloc, Status::BadEvents, line)
-        }
+// What is wrong with a plan file of this name.
+fn plans_failure<'w>(name: &'w str, error: PlanError) -> LabFailure<'w> {
+    match error {
+        PlanError::Refused { line, fault } => LabFailure::Line {
+            name,
+            line,
+            fault: LineFault::Plan(fault),
+        },
+        PlanError::Memory => LabFailure::Memory,
     }
 }
 
-// The lines of a plan file for a source, or the reply to its first faulty line.
-fn parse_plans(
+// The lines of the bytes of a plan file of this name for a source, or its first faulty line.
+fn parse_plans<'w>(
     alloc: Global,
     source: &Source,
-    word: &str,
+    name: &'w str,
     text: &[u8],
-) -> Result<Vec<PlanLine>, Failure>
+) -> Result<Vec<PlanLine>, LabFailure<'w>>
     requires { length text.now ≤ MAX_FILE_BYTES }
+    ensures { IfOk result (λ lines. (blocks : List Block) × AreBlocks source.now blocks
+        × (plans_in (length blocks) text.now ≡ Ok (lines_said lines.items))) }
 {
-    let count = blocks(alloc, source)?.len();
-    match read_plans(alloc, count, text) {
-        Ok(plans) => Ok(plans),
-        Err(error) => Err(faulty(alloc, word, &error)),
+    let found = blocks(alloc, source)?;
+    match read_plans(alloc, found.len(), text) {
+        Ok(lines) => Ok(lines),
+        Err(error) => Err(plans_failure(name, error)),
     }
 }
 
-/// The plans of the file that a word names for a source, or the reply to what is wrong with it.
-pub fn plans_of<S: Shelf>(
+/// The lines of the plan file of this name for a source.
+pub fn plans_of<'w, S: Shelf>(
     alloc: Global,
     shelf: &mut S,
     source: &Source,
-    word: &str,
-) -> Result<Vec<PlanLine>, Failure> {
-    let text = read_plan_file(alloc, shelf, word)?;
-    parse_plans(alloc, source, word, text.as_slice())
+    name: &'w str,
+) -> Result<Vec<PlanLine>, LabFailure<'w>>
+    ensures read { IfOk result (λ lines. ArePlansOf (S.told shelf.old) name.entry.now source.now (S.counts shelf.old) (S.counts shelf.new)
+        (lines_said lines.items)) }
+    ensures told_stays { S.told shelf.new ≡ S.told shelf.old }
+    ensures writes_stay { S.write_faults shelf.new ≡ S.write_faults shelf.old }
+{
+    let text = read_lab_file(alloc, shelf, LabFile::Plans, name)?;
+    let lines = parse_plans(alloc, source, name, text.as_slice())?;
+    Ok(lines)
 }

@@ -1,15 +1,14 @@
 //! By whose plans a source is linked.
-ghost use Rattle.std.specs.Prelude.{IfOk};
+ghost use Rattle.std.specs.Prelude.{◌≡◌, IfOk};
 ghost use Rattle.lab_runs.specs.Schedulers.{IsLinkedSource};
-ghost use Rattle.lab_runs.specs.Planners.{IsPlanned};
-ghost use Rattle.lab_runs.specs.declared.schedulers.Scheduler.{Scheduler as Chosen};
+ghost use Rattle.lab_runs.specs.Planners.{IsLinkedAs, IsAskedFor, IsByLines};
 
 use crate::plan_files::plans_of;
-use crate::replies::unlinked;
-use crate::schedulers::{Scheduler, program_by};
-use cmd_answer::Failure;
+use crate::schedulers::program_by;
+use crate::sources::unlinked;
 use cmd_source::Program;
-use lab_line::Asked;
+use lab_failure::LabFailure;
+use lab_options::{PlansOf, RunOptions, Scheduler};
 use lab_plans::link_told;
 use mx_io::Shelf;
 use mx_plans::PlanLine;
@@ -54,14 +53,16 @@ pub struct PlannedProgram {
     pub by: Planner,
 }
 
-// The program of a text and its source, linked by the plans that the lines of a file say; or the reply to its first branch that
-// does not reach its target.
-fn linked_by_file(
+// The program of a text and its source of this name, linked by the plans that the lines of a file say.
+fn linked_by_file<'w>(
     alloc: Global,
+    name: &'w str,
     program: Program,
     lines: Vec<PlanLine>,
-) -> Result<PlannedProgram, Failure>
-    ensures { (scheduler : Chosen) → IfOk result (IsPlanned scheduler) }
+) -> Result<PlannedProgram, LabFailure<'w>>
+    ensures linked { IfOk result (λ made. IsLinkedAs made.by made.program) }
+    ensures text { IfOk result (λ made. (made.program.text ≡ program.text) × (made.program.source ≡ program.source)) }
+    ensures by { IfOk result (λ made. IsByLines lines.items made.by) }
 {
     let Program { text, source, .. } = program;
     match link_told(alloc, &source, lines.as_slice()) {
@@ -76,52 +77,67 @@ fn linked_by_file(
                 rejections: told.rejections,
             }),
         }),
-        Err(error) => Err(unlinked(alloc, &error)),
+        Err(error) => Err(unlinked(name, error)),
     }
 }
 
-// The same by the plans of the file that a word names, or the reply to what is wrong with it.
-fn read_planned<S: Shelf>(
+// The same by the plan file of a name.
+fn read_planned<'w, S: Shelf>(
     alloc: Global,
     shelf: &mut S,
+    source: &'w str,
     program: Program,
-    word: &str,
-) -> Result<PlannedProgram, Failure>
-    ensures { (scheduler : Chosen) → IfOk result (IsPlanned scheduler) }
+    file: &'w str,
+) -> Result<PlannedProgram, LabFailure<'w>>
+    ensures linked { IfOk result (λ made. IsLinkedAs made.by made.program) }
+    ensures text { IfOk result (λ made. (made.program.text ≡ program.text) × (made.program.source ≡ program.source)) }
+    ensures by { IfOk result (λ made. IsAskedFor (S.told shelf.old) (PlansOf.File file.entry) program.source
+        (S.counts shelf.old) (S.counts shelf.new) made.by) }
+    ensures told_stays { S.told shelf.new ≡ S.told shelf.old }
+    ensures writes_stay { S.write_faults shelf.new ≡ S.write_faults shelf.old }
 {
-    let lines = plans_of(alloc, shelf, &program.source, word)?;
-    linked_by_file(alloc, program, lines)
+    let lines = plans_of(alloc, shelf, &program.source, file)?;
+    let made = linked_by_file(alloc, source, program, lines)?;
+    Ok(made)
 }
 
-// A program that is linked as `run` has it, linked by a scheduler.
-fn scheduled(
+// A program that is linked as `run` has it, linked by a scheduler. Its source is in the file of this name.
+fn scheduled<'w>(
     alloc: Global,
+    name: &'w str,
     program: Program,
     scheduler: Scheduler,
-) -> Result<PlannedProgram, Failure>
+) -> Result<PlannedProgram, LabFailure<'w>>
     requires { IsLinkedSource program }
-    ensures { IfOk result (IsPlanned scheduler) }
+    ensures linked { IfOk result (λ made. IsLinkedAs made.by made.program) }
+    ensures text { IfOk result (λ made. (made.program.text ≡ program.text) × (made.program.source ≡ program.source)) }
+    ensures by { IfOk result (λ made. made.by ≡ Planner.Scheduler scheduler) }
 {
-    let program = program_by(alloc, program, scheduler)?;
+    let linked = program_by(alloc, name, program, scheduler)?;
     Ok(PlannedProgram {
-        program,
+        program: linked,
         by: Planner::Scheduler(scheduler),
     })
 }
 
-/// A program that is linked as `run` has it, linked by the plan file that the words name, or by a scheduler where they name none;
-/// or the reply to what is wrong.
-pub fn planned<S: Shelf>(
-    asked: &Asked,
+/// A program that is linked as `run` has it, linked by the plan file or the scheduler that the options name.
+pub fn planned<'w, S: Shelf>(
+    alloc: Global,
     shelf: &mut S,
+    options: &RunOptions<'w>,
     program: Program,
-    scheduler: Scheduler,
-) -> Result<PlannedProgram, Failure>
+) -> Result<PlannedProgram, LabFailure<'w>>
     requires { IsLinkedSource program }
-    ensures { IfOk result (IsPlanned scheduler) }
+    ensures linked { IfOk result (λ made. IsLinkedAs made.by made.program) }
+    ensures text { IfOk result (λ made. (made.program.text ≡ program.text) × (made.program.source ≡ program.source)) }
+    ensures by { IfOk result (λ made. IsAskedFor (S.told shelf.old) options.now.plans program.source
+        (S.counts shelf.old) (S.counts shelf.new) made.by) }
+    ensures told_stays { S.told shelf.new ≡ S.told shelf.old }
+    ensures writes_stay { S.write_faults shelf.new ≡ S.write_faults shelf.old }
 {
-    match asked.word_if_any("plans") {
-        Some(word) => read_planned(asked.alloc, shelf, program, word),
-        None => scheduled(asked.alloc, program, scheduler),
+    let name = options.source;
+    match options.plans {
+        PlansOf::File(file) => read_planned(alloc, shelf, name, program, file),
+        PlansOf::Scheduler(scheduler) => scheduled(alloc, name, program, scheduler),
     }
 }

@@ -1,65 +1,44 @@
 //! The reply of `profile`.
+ghost use Rattle.std.specs.Prelude.{IfOk};
+ghost use Rattle.cmd_answer.specs.Replies.{reply_answer};
+ghost use Rattle.lab_runs.specs.Replied.{SpeaksOf, ends_by};
+
+use crate::blocks_ran::profile_in;
 use crate::replies::{or_memory, printed, run_status};
-use crate::runs::GivenRun;
-use cmd_answer::{Failure, Reply};
+use crate::runs::{GivenRun, noted_run};
+use cmd_answer::Reply;
 use lab_costs::{By, Subject, callgrind, profile_json, profile_text};
-use lab_line::{Asked, Form, WordRow, meant_by};
-use lab_profile::{Calls, Column, Profile, calls_of, profile_of};
+use lab_failure::LabFailure;
+use lab_options::{Form, Part, ProfileOptions, Sort};
+use lab_profile::{Calls, Column, Profile, calls_of};
 use lab_watch::Watcher;
-use mx_io::Memory;
+use mx_io::{Memory, Shelf};
 use std::alloc::Global;
 
-// The parts beside lines.
-static PARTS: [WordRow<By>; 3] = [
-    WordRow {
-        word: "label",
-        means: By::Label,
-    },
-    WordRow {
-        word: "function",
-        means: By::Function,
-    },
-    WordRow {
-        word: "c",
-        means: By::C,
-    },
-];
+// The parts that an option names.
+fn part_of(part: Part) -> By {
+    match part {
+        Part::Line => By::Line,
+        Part::Label => By::Label,
+        Part::Function => By::Function,
+        Part::C => By::C,
+    }
+}
 
-// The columns beside the order of the source.
-static COLUMNS: [WordRow<Column>; 8] = [
-    WordRow {
-        word: "count",
-        means: Column::Count,
-    },
-    WordRow {
-        word: "cycles",
-        means: Column::Cycles,
-    },
-    WordRow {
-        word: "caused",
-        means: Column::Caused,
-    },
-    WordRow {
-        word: "cpi",
-        means: Column::Cpi,
-    },
-    WordRow {
-        word: "stalls",
-        means: Column::Stalls,
-    },
-    WordRow {
-        word: "noops",
-        means: Column::Noops,
-    },
-    WordRow {
-        word: "squashed",
-        means: Column::Squashed,
-    },
-    WordRow {
-        word: "killed",
-        means: Column::Killed,
-    },
-];
+// The column that an option names.
+fn column_of(sort: Sort) -> Column {
+    match sort {
+        Sort::Line => Column::Line,
+        Sort::Count => Column::Count,
+        Sort::Cycles => Column::Cycles,
+        Sort::Caused => Column::Caused,
+        Sort::Cpi => Column::Cpi,
+        Sort::Stalls => Column::Stalls,
+        Sort::Noops => Column::Noops,
+        Sort::Squashed => Column::Squashed,
+        Sort::Killed => Column::Killed,
+    }
+}
 
 // The calls of a run.
 fn calls_in<W: Watcher>(alloc: Global, run: &GivenRun, watcher: W) -> Result<Calls, Memory> {
@@ -88,40 +67,43 @@ fn callgrind_of<W: Watcher>(
     or_memory(callgrind(alloc, subject, &calls, by))
 }
 
-// A profile of a run in the form that the words ask for.
+// A profile of a run in the form that the options ask for.
 fn text_of<W: Watcher>(
-    asked: &Asked,
+    alloc: Global,
+    options: &ProfileOptions,
     run: &GivenRun,
     profile: &Profile,
     watcher: W,
 ) -> Result<Vec<u8>, Memory> {
-    let (alloc, program) = (asked.alloc, &run.program);
+    let program = &run.program;
     let subject = Subject {
-        file: asked.word("SOURCE"),
+        file: options.run.source,
         text: program.text.as_slice(),
         source: &program.source,
         linked: &program.linked,
         profile,
     };
-    let by = meant_by(&PARTS, asked.word("by"), By::Line);
-    let column = meant_by(&COLUMNS, asked.word("sort"), Column::Line);
-    match asked.form() {
+    let (by, column) = (part_of(options.by), column_of(options.sort));
+    match options.run.form {
         Form::Json => profile_json(alloc, &subject, by, column),
         Form::Callgrind => callgrind_of(alloc, run, &subject, by, watcher),
         _ => or_memory(profile_text(alloc, &subject, by, column)),
     }
 }
 
-/// The reply to `profile SOURCE`.
-pub fn profile_reply<W: Watcher>(
-    asked: &Asked,
-    run: &GivenRun,
+/// The reply to `profile SOURCE`. A line for each plan that is rejected is left in `notes`.
+pub fn profile_reply<'w, S: Shelf, W: Watcher>(
+    alloc: Global,
+    options: &ProfileOptions<'w>,
+    shelf: &mut S,
     watcher: W,
-) -> Result<Reply, Failure> {
-    let image = &run.program.linked.image;
-    let requests = &run.stimulus.requests;
-    let input = run.asked_input();
-    let profile = profile_of(asked.alloc, image, input, requests, run.budget, watcher)?;
-    let text = text_of(asked, run, &profile, watcher);
-    printed(run_status(profile.halted), text)
+    notes: &mut Vec<u8>,
+) -> Result<Reply, LabFailure<'w>>
+    ensures { IfOk result (λ r. SpeaksOf (S.told shelf.old) options.now.run (S.counts shelf.old) (S.counts shelf.new) (ends_by Status.Done Status.OutOfBudget) (reply_answer r)) }
+{
+    let run = noted_run(alloc, shelf, &options.run, notes)?;
+    let profile = profile_in(alloc, &run, watcher)?;
+    let text = text_of(alloc, options, &run, &profile, watcher);
+    let reply = printed(run_status(profile.halted), text)?;
+    Ok(reply)
 }

@@ -1,15 +1,16 @@
 //! Sources with what their runs are given.
-ghost use Rattle.std.specs.Prelude.{◌≡◌, IfOk};
+ghost use Rattle.std.specs.Prelude.{◌≡◌, IfOk, option_map};
 ghost use Rattle.std.specs.Option.{option_copied};
-ghost use Rattle.lab_runs.specs.Planners.{IsPlanned};
-ghost use Rattle.lab_runs.specs.Runs.{input_of, IsOfFile, IsGiven, IsLoaded};
+ghost use Rattle.lab_runs.specs.Stimuli.{AreGiven};
+ghost use Rattle.lab_runs.specs.Runs.{input_of, IsOfFile, IsLoaded, IsRunOf};
 
 use crate::planners::{PlannedProgram, Planner, planned};
-use crate::schedulers::Scheduler;
-use crate::stimulus::{Stimulus, read_stimulus};
-use cmd_answer::Failure;
-use cmd_source::{Program, read_program};
-use lab_line::Asked;
+use crate::sources::read_program;
+use crate::stimulus::Stimulus;
+use crate::stimulus_files::read_stimulus;
+use cmd_source::Program;
+use lab_failure::LabFailure;
+use lab_options::RunOptions;
 use lab_watch::{Watched, Watcher, watched_pipe};
 use mx_icache::LineCache;
 use mx_io::{Memory, Shelf};
@@ -53,36 +54,58 @@ impl GivenRun {
     }
 }
 
-// A linked source with what the words give its run, or the reply to the first of these that is wrong.
-fn run_with<S: Shelf>(
-    asked: &Asked,
+// A linked source with what comes to its run from outside.
+fn run_with<'w, S: Shelf>(
+    alloc: Global,
     shelf: &mut S,
+    options: &RunOptions<'w>,
     planned: PlannedProgram,
-    scheduler: Scheduler,
-) -> Result<GivenRun, Failure>
-    requires { IsPlanned scheduler planned }
-    ensures { IfOk result (IsGiven scheduler) }
+) -> Result<GivenRun, LabFailure<'w>>
+    ensures made { IfOk result (λ run. (run.program ≡ planned.program) × (run.by ≡ planned.by) × (run.budget ≡ options.now.budget)) }
+    ensures given { IfOk result (λ run. AreGiven (S.told shelf.old) (option_map (λ s. s.now) options.now.stimulus.interrupts)
+        (option_map (λ s. s.now) options.now.stimulus.input) (S.counts shelf.old) (S.counts shelf.new) run.stimulus) }
+    ensures told_stays { S.told shelf.new ≡ S.told shelf.old }
+    ensures writes_stay { S.write_faults shelf.new ≡ S.write_faults shelf.old }
 {
     let PlannedProgram { program, by } = planned;
-    let stimulus = read_stimulus(asked, shelf)?;
+    let stimulus = read_stimulus(alloc, shelf, options.stimulus)?;
     Ok(GivenRun {
         program,
         by,
         stimulus,
-        budget: asked.number("budget"),
+        budget: options.budget,
     })
 }
 
-/// The source that the words name, linked by the plan file that they name, or by a scheduler where they name none, and what they
-/// give its run; or the reply to the first of these that is wrong.
-pub fn read_run<S: Shelf>(
-    asked: &Asked,
+/// The run that the options ask for: the named source, linked by the named plan file or scheduler, with what the named files give
+/// it. The files are read in this order; what is wrong with the first that is wrong is answered.
+pub fn read_run<'w, S: Shelf>(
+    alloc: Global,
     shelf: &mut S,
-    scheduler: Scheduler,
-) -> Result<GivenRun, Failure>
-    ensures { IfOk result (IsGiven scheduler) }
+    options: &RunOptions<'w>,
+) -> Result<GivenRun, LabFailure<'w>>
+    ensures run { IfOk result (IsRunOf (S.told shelf.old) options.now (S.counts shelf.old) (S.counts shelf.new)) }
+    ensures told_stays { S.told shelf.new ≡ S.told shelf.old }
+    ensures writes_stay { S.write_faults shelf.new ≡ S.write_faults shelf.old }
 {
-    let read = read_program(asked.alloc, shelf, asked.file("SOURCE"))?;
-    let made = planned(asked, shelf, read, scheduler)?;
-    run_with(asked, shelf, made, scheduler)
+    let read = read_program(alloc, shelf, options.source)?;
+    let made = planned(alloc, shelf, options, read)?;
+    let run = run_with(alloc, shelf, options, made)?;
+    Ok(run)
+}
+
+/// The same, beside which a line for each plan that is rejected is left in `notes`.
+pub fn noted_run<'w, S: Shelf>(
+    alloc: Global,
+    shelf: &mut S,
+    options: &RunOptions<'w>,
+    notes: &mut Vec<u8>,
+) -> Result<GivenRun, LabFailure<'w>>
+    ensures run { IfOk result (IsRunOf (S.told shelf.old) options.now (S.counts shelf.old) (S.counts shelf.new)) }
+    ensures told_stays { S.told shelf.new ≡ S.told shelf.old }
+    ensures writes_stay { S.write_faults shelf.new ≡ S.write_faults shelf.old }
+{
+    let run = read_run(alloc, shelf, options)?;
+    notes.extend_from_slice(run.by.rejections())?;
+    Ok(run)
 }

@@ -7,7 +7,7 @@ ghost use Rattle.mx_serve.specs.Ends.{RunEnds};
 
 use cmd_answer::Status;
 use embed_call::{CallEnd, QuietShelf, TextSink, run_on_shelf};
-use lab_command::{Ended as ExitReport, Unknown, lab};
+use lab_command::{ExitReport, Unknown, lab};
 use lab_request::{CommandEnd, Commands, WorkbenchCommand};
 use lab_watch::Unwatched;
 use mx_io::{Memory, MemoryShelf};

@@ -2,11 +2,12 @@ use Rattle.std.proofs.Common.{◌≡◌, ◌++◌, ℕ, List, length, Result, Ok
 use Rattle.mx_isa.specs.Board.{board}
 use Rattle.mx_link.specs.Linked.{linked_code}
 use Rattle.mx_image.specs.Contents.{LinksFit}
-use Rattle.mx_plans.specs.Files.{lines_said}
+use Rattle.mx_plans.specs.Files.{lines_said, marks_of}
+use Rattle.mx_plans.specs.Says.{IsProposed}
 use Rattle.mx_plans.specs.Copies.{as_planned}
 use Rattle.mx_image.specs.Files.{file_bytes}
 use Rattle.cmd_answer.specs.declared.Reply.{Reply}
-use Rattle.cmd_answer.specs.declared.Failure.{Failure}
+use Rattle.lab_failure.specs.declared.failure.LabFailure.{LabFailure}
 use Rattle.cmd_answer.specs.Answer.{writes}
 use Rattle.cmd_answer.specs.Replies.{reply_answer}
 use Rattle.lab_runs.specs.Building.{contents_linked, IsBuilt}
@@ -15,7 +16,7 @@ use Rattle.lab_runs.proofs.TooFar.{too_far}
 use Rattle.lab_runs.proofs.building.built_reply.Goals as goal
 
 -- what is known of a reply, and what holds where there is one
-both : (r : Result Reply Failure) (P Q : Reply → Type 0) (B : Type 0) → IfOk r P → OnOk r B → ((reply : Reply) → P reply → B → Q reply) → IfOk r Q
+both : (r : Result Reply LabFailure) (P Q : Reply → Type 0) (B : Type 0) → IfOk r P → OnOk r B → ((reply : Reply) → P reply → B → Q reply) → IfOk r Q
 both (Ok reply) P Q B says holds also = also reply says holds
 both (Err failure) P Q B says holds also = tt
 
@@ -32,7 +33,7 @@ pub returns-in-Ok-clause-built : goal.returns-in-Ok-clause-built
 returns-in-Ok-clause-built c =
     let source = c.args.source.now in
     let lines = lines_said c.args.lines.now in
-    let name = c.args.name.now in
+    let name = c.args.options.now.image.now in
     let before = c.args.notes.now.items in
     let after = c.written.new.notes.items in
     let told = c.in-Ok.told in
@@ -42,4 +43,5 @@ returns-in-Ok-clause-built c =
 
 pub returns-in-Err-clause-refused : goal.returns-in-Err-clause-refused
 returns-in-Err-clause-refused c =
-    too_far c.args.source.now (lines_said c.args.lines.now) c.in-Err.error c.unlinked.result c.in-Err.ensures.refused c.unlinked.ensures
+    too_far (IsProposed c.args.source.now (marks_of (lines_said c.args.lines.now))) c.args.options.now.source.now c.args.source.now
+    c.in-Err.error c.unlinked.result c.in-Err.ensures.refused c.unlinked.ensures

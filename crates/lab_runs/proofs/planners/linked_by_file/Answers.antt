@@ -5,8 +5,8 @@ use Rattle.mx_plans.specs.Files.{lines_said}
 use Rattle.lab_plans.specs.Linking.{IsLinkedTold}
 use Rattle.lab_runs.proofs.planners.linked_by_file.Goals as goal
 
-pub returns-in-Ok : goal.returns-in-Ok
-returns-in-Ok c = λ scheduler.
+pub returns-in-Ok-clause-linked : goal.returns-in-Ok-clause-linked
+returns-in-Ok-clause-linked c =
     let t = subst (λ (lines : List PlanLine). IsLinkedTold c.args.program.source (lines_said lines) c.in-Ok.told) c.as_slice.ensures.value
     c.in-Ok.ensures.told in
-    record { linked = record { is = t.is; told = t.told }; by = tt }
+    record { is = t.is; told = t.told }

@@ -1,5 +1,5 @@
 use Rattle.std.proofs.Common.{IfOk, IfErr, sym, subst}
-use Rattle.lab_runs.specs.declared.schedulers.Scheduler.{Scheduler}
+use Rattle.lab_options.specs.declared.options.Scheduler.{Scheduler}
 use Rattle.lab_runs.specs.Schedulers.{board, proposes, fills, IsLinked, IsRefusal}
 use Rattle.lab_runs.proofs.schedulers.linked_by.Goals as goal
 
