@@ -1,4 +1,2 @@
-pub mod Links
 pub mod Labels
-pub mod TooFar
 pub mod Ran

@@ -1,17 +1,15 @@
 //! The reply of `explain`.
 ghost use Rattle.std.specs.Prelude.{◌≡◌, if◌then◌else◌, IfOk};
 ghost use Rattle.mx_turn.specs.Run.{run_of};
-ghost use Rattle.cmd_answer.specs.Replies.{reply_answer};
-ghost use Rattle.lab_runs.specs.Runs.{loaded};
-ghost use Rattle.lab_runs.specs.Replied.{SpeaksOf, ends_by};
+ghost use Rattle.lab_sources.specs.Runs.{loaded};
 
 use crate::replies::{or_memory, printed};
-use crate::runs::{GivenRun, noted_run};
 use cmd_answer::{Reply, Status};
 use lab_explain::{Explained, explained_json, explained_text};
 use lab_failure::LabFailure;
-use lab_options::{Form, RunOptions};
 use lab_measures::{Ran, Standing, run_machine, stand};
+use lab_options::{Form, RunOptions};
+use lab_sources::{GivenRun, noted_run};
 use lab_watch::Watcher;
 use mx_io::{Memory, Shelf};
 use mx_lines::lines_of;
@@ -82,7 +80,6 @@ fn run_reply<'w, W: Watcher>(
     run: &GivenRun,
     watcher: W,
 ) -> Result<Reply, LabFailure<'w>>
-    ensures { IfOk result (λ r. (reply_answer r).status ≡ ends_by Status.Halted Status.OutOfBudget run.now) }
 {
     let steps = run.budget.saturating_add(STATEMENTS_AHEAD);
     let input = run.stimulus.input.as_slice();
@@ -101,7 +98,6 @@ pub fn explain_reply<'w, S: Shelf, W: Watcher>(
     watcher: W,
     notes: &mut Vec<u8>,
 ) -> Result<Reply, LabFailure<'w>>
-    ensures { IfOk result (λ r. SpeaksOf (S.told shelf.old) options.now (S.counts shelf.old) (S.counts shelf.new) (ends_by Status.Halted Status.OutOfBudget) (reply_answer r)) }
 {
     let run = noted_run(alloc, shelf, options, notes)?;
     let reply = run_reply(alloc, options, &run, watcher)?;

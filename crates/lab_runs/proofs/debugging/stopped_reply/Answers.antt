@@ -6,7 +6,7 @@ use Rattle.mx_link.specs.Origins.{from_nowhere}
 use Rattle.mx_link.specs.Linked.{link_map}
 use Rattle.cmd_answer.specs.Replies.{reply_answer}
 use Rattle.lab_runs.specs.Sessions.{IsSessionOf}
-use Rattle.lab_runs.proofs.Links.{in_code, links_count, link_there}
+use Rattle.lab_sources.proofs.Links.{in_code, links_count, link_there}
 use Rattle.lab_runs.proofs.debugging.stopped_reply.Goals as goal
 
 pub link_at-address-requires : goal.link_at-address-requires
@@ -29,8 +29,8 @@ session-requires-clause-address c =
     let long = linked.image.code.ok in
     omega (arith, here, most, count, few, long)
 
-pub returns : goal.returns
-returns c =
+pub returns-clause-stopped : goal.returns-clause-stopped
+returns-clause-stopped c =
     let source = c.args.source.now in
     let linked = c.in_ok-linked.linked in
     let code = linked.image.code.items in
@@ -47,5 +47,5 @@ returns c =
       session = subst (λ (a : Bool). IsSessionOf code user_data a (link_map board k.sites c.args.index) stimulus.cycles.items stimulus.input.items
           limits answer) asks
           (subst (λ (at : ℕ). IsSessionOf code user_data c.is_some-asks.result at stimulus.cycles.items stimulus.input.items limits answer) here
-          c.in_ok-reply.ensures);
+          c.in_ok-reply.ensures.answered);
     }
