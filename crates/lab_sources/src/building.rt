@@ -82,8 +82,7 @@ pub fn build_reply<'w, S: Shelf>(
     options: &BuildOptions<'w>,
     shelf: &mut S,
     notes: &mut Vec<u8>,
-) -> Result<Reply, LabFailure<'w>>
-{
+) -> Result<Reply, LabFailure<'w>> {
     let source = read_source(alloc, shelf, options.source)?;
     let lines = plans_of(alloc, shelf, &source, options.plans)?;
     let reply = built_reply(alloc, options, &source, lines.as_slice(), notes)?;

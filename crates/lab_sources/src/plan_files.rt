@@ -43,8 +43,7 @@ pub fn plans_of<'w, S: Shelf>(
     shelf: &mut S,
     source: &Source,
     name: &'w str,
-) -> Result<Vec<PlanLine>, LabFailure<'w>>
-{
+) -> Result<Vec<PlanLine>, LabFailure<'w>> {
     let text = read_lab_file(alloc, shelf, LabFile::Plans, name)?;
     let lines = parse_plans(alloc, source, name, text.as_slice())?;
     Ok(lines)

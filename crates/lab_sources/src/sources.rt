@@ -49,8 +49,7 @@ pub fn read_source<'w, S: Shelf>(
     alloc: Global,
     shelf: &mut S,
     name: &'w str,
-) -> Result<Source, LabFailure<'w>>
-{
+) -> Result<Source, LabFailure<'w>> {
     let text = read_lab_file(alloc, shelf, LabFile::Source, name)?;
     let source = assembled(alloc, name, text.as_slice())?;
     Ok(source)

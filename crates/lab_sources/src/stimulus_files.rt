@@ -58,8 +58,7 @@ pub fn read_stimulus<'w, S: Shelf>(
     alloc: Global,
     shelf: &mut S,
     names: StimulusNames<'w>,
-) -> Result<Stimulus, LabFailure<'w>>
-{
+) -> Result<Stimulus, LabFailure<'w>> {
     let cycles = read_if(alloc, shelf, LabFile::Interrupts, names.interrupts)?;
     let requests = parse_requests(alloc, names.interrupts.unwrap_or(""), cycles.as_slice())?;
     let input = read_if(alloc, shelf, LabFile::Input, names.input)?;
