@@ -8,7 +8,8 @@ use lab_certify::{
 };
 use lab_failure::{LabFailure, LabFile, LineFault, read_lab_file};
 use lab_options::VerifyOptions;
-use lab_runs::{printed, read_program, unlinked};
+use lab_runs::printed;
+use lab_sources::{read_program, unlinked};
 use mx_image::ImageFile;
 use mx_io::Shelf;
 use std::alloc::Global;

@@ -8,7 +8,8 @@ use cmd_source::Program;
 use lab_failure::LabFailure;
 use lab_options::{CompareOptions, Form};
 use lab_measures::{Comparison, Conditions, compare};
-use lab_runs::{Stimulus, or_memory, printed, read_program, read_stimulus, unlinked};
+use lab_runs::{or_memory, printed};
+use lab_sources::{Stimulus, read_program, read_stimulus, unlinked};
 use lab_tables::{
     Column, Compared, comparison_csv, comparison_json, comparison_text, comparisons_csv,
     comparisons_json, comparisons_text,

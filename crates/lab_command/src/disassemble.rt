@@ -7,7 +7,8 @@ use cmd_answer::{Reply, Status};
 use lab_disassemble::{Listing, image_listing, listing_json, listing_text, source_listing};
 use lab_failure::{LabFailure, LabFile, read_lab_file};
 use lab_options::{DisassembleOptions, Form};
-use lab_runs::{linked_text, or_memory, printed};
+use lab_runs::{or_memory, printed};
+use lab_sources::linked_text;
 use mx_io::{Memory, Shelf};
 use std::alloc::Global;
 

@@ -6,7 +6,7 @@ use lab_failure::LabFailure;
 use lab_options::ArgumentFault;
 use lab_measures::Conditions;
 use lab_plans::{PlannedFigures, figures_by_plans};
-use lab_runs::{plans_of, unlinked};
+use lab_sources::{plans_of, unlinked};
 use lab_tables::Column;
 use lab_watch::Watcher;
 use mx_io::Shelf;

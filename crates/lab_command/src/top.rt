@@ -14,9 +14,10 @@ use lab_line::{CommandLine, command_line, parse_words, usage_text};
 use lab_options::LabCommand;
 use lab_output::{Delivery, Destination, ExitReport, failed, put_out};
 use lab_runs::{
-    build_reply, caches_reply, debug_reply, draw_reply, explain_reply, interrupts_reply,
-    profile_reply, trace_reply,
+    caches_reply, debug_reply, draw_reply, explain_reply, interrupts_reply, profile_reply,
+    trace_reply,
 };
+use lab_sources::build_reply;
 use lab_watch::Watcher;
 use mx_io::{Memory, Shelf, Sink};
 use std::alloc::{AllocError, Global};

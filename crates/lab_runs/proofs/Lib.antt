@@ -1,4 +1,3 @@
-pub mod Links
 pub mod Labels
-pub mod TooFar
 pub mod Ran
+pub mod Failures

@@ -7,9 +7,9 @@ use Rattle.mx_turn.specs.Run.{run_of}
 use Rattle.lab_blocks.specs.declared.facts.Facts.{Facts}
 use Rattle.lab_profile.specs.Charges.{executed_at}
 use Rattle.lab_profile.specs.Lines.{saturated}
-use Rattle.lab_runs.specs.declared.runs.GivenRun.{GivenRun}
+use Rattle.lab_sources.specs.declared.runs.GivenRun.{GivenRun}
 use Rattle.lab_runs.specs.declared.blocks_ran.RanBlocks.{RanBlocks}
-use Rattle.lab_runs.specs.Runs.{loaded}
+use Rattle.lab_sources.specs.Runs.{loaded}
 
 -- the number of words of the code
 abbrev pub words_of : GivenRun → ℕ

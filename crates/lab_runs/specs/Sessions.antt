@@ -1,5 +1,5 @@
 -- Sessions of sources that are linked by the plans of a file.
-use Rattle.std.specs.Prelude.{◌≡◌, ℕ, Bool, true, List, codes, cond, ltb, length, min, max, Option, Some, None, is_some, option_and_then, option_map}
+use Rattle.std.specs.Prelude.{◌≡◌, ℕ, Bool, true, List, codes, cond, ltb, length, min, max, Option, Some, None, is_some, option_and_then}
 use Rattle.mx_isa.specs.Board.{board}
 use Rattle.mx_io.specs.Shelves.{Told, Counts}
 use Rattle.mx_source.specs.declared.Label.{Label}
@@ -17,10 +17,6 @@ use Rattle.cmd_options.specs.Options.{Files}
 use Rattle.cmd_options.specs.declared.SessionLimits.{SessionLimits}
 use Rattle.cmd_debug.specs.Sessions.{session_protocol}
 use Rattle.lab_options.specs.declared.options.DebugOptions.{DebugOptions}
-use Rattle.lab_runs.specs.declared.stimulus.Stimulus.{Stimulus}
-use Rattle.lab_runs.specs.PlanFiles.{ArePlansOf}
-use Rattle.lab_runs.specs.Sources.{IsSourceOf}
-use Rattle.lab_runs.specs.Stimuli.{AreGiven}
 
 -- the statement of a source of so many at which a label stands, if it is a code label and one stands there
 abbrev pub statement_at : ℕ → Label → Option ℕ
@@ -62,19 +58,3 @@ pub record IsSession (source : SourceValue) (lines : List LineSaid) (index : ℕ
   pub is : IsLinked (IsProposed source (marks_of lines)) from_nowhere source board linked
   pub session : IsSessionOf linked.image.code.items linked.image.user_data.items (is_some source.input) (link_map board is.sites index)
       cycles input limits answer
-
--- the named source, plan file and files of the run were read, and the answer is the session at the named label
-pub record IsDebugOf (told : Told) (options : DebugOptions) (before after : Counts) (answer : Answer) : Type 0 where
-  pub text : List ℕ
-  pub source : SourceValue
-  pub lines : List LineSaid
-  pub index : ℕ
-  pub stimulus : Stimulus
-  pub read : Counts
-  pub planned : Counts
-  pub source_is : IsSourceOf told options.source.now before read text source
-  pub labelled : statement_named source options.label.now ≡ Some index
-  pub plans : ArePlansOf told options.plans.now source read planned lines
-  pub given : AreGiven told (option_map (λ s. s.now) options.stimulus.interrupts) (option_map (λ s. s.now) options.stimulus.input)
-      planned after stimulus
-  pub session : IsSession source lines index stimulus.cycles.items stimulus.input.items (limits_of options) answer

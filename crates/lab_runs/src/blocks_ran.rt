@@ -1,14 +1,14 @@
 //! How often the blocks of a source run.
 ghost use Rattle.std.specs.Prelude.{◌≡◌, ◌<◌, ℕ, IfOk, length, map, slice_index};
 ghost use Rattle.lab_profile.specs.Tallies.{IsProfile};
-ghost use Rattle.lab_runs.specs.Runs.{loaded, IsRunOf};
+ghost use Rattle.lab_sources.specs.Runs.{loaded, IsRunOf};
 ghost use Rattle.lab_runs.specs.Ran.{executed_in, HaveRun, AreOfRun, words_of};
 
-use crate::runs::{GivenRun, read_run};
 use lab_blocks::{Facts, source_blocks};
 use lab_failure::LabFailure;
 use lab_options::RunOptions;
 use lab_profile::{LineCost, Profile, line_costs, profile_of};
+use lab_sources::{GivenRun, read_run};
 use lab_watch::Watcher;
 use mx_io::{Memory, Shelf};
 use std::alloc::{AllocError, Global};
@@ -92,8 +92,7 @@ pub fn ran_blocks<'w, S: Shelf, W: Watcher>(
     shelf: &mut S,
     watcher: W,
 ) -> Result<RanBlocks, LabFailure<'w>>
-    ensures { IfOk result (λ ran. (run : GivenRun) × IsRunOf (S.told shelf.old) options.now (S.counts shelf.old) (S.counts shelf.new) run
-        × AreOfRun run ran) }
+    ensures { IfOk result (λ ran. (run : GivenRun) × IsRunOf options.now run × AreOfRun run ran) }
 {
     let run = read_run(alloc, shelf, options)?;
     let ran = blocks_of(alloc, &run, watcher)?;

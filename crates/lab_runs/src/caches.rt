@@ -1,10 +1,10 @@
 //! The reply of `caches`.
 use crate::replies::{or_memory, printed, run_status};
-use crate::runs::{GivenRun, noted_run};
 use cmd_answer::Reply;
 use lab_caches::{Study, caches_json, caches_svg, caches_text, study_of};
 use lab_failure::LabFailure;
 use lab_options::{CachesOptions, Form};
+use lab_sources::{GivenRun, noted_run};
 use lab_terms::{Geometry, geometries};
 use lab_watch::{Watched, Watcher};
 use mx_icache::LineCache;

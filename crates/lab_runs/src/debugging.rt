@@ -1,31 +1,24 @@
 //! The reply of `debug` with a plan file.
-ghost use Rattle.std.specs.Prelude.{◌≡◌, ◌<◌, ◌^◌, List, IfOk, IfErr, IfSome, length, option_map, slice_index};
+ghost use Rattle.std.specs.Prelude.{◌≡◌, ◌<◌, ◌^◌, IfOk, IfErr, IfSome, length, slice_index};
 ghost use Rattle.mx_isa.specs.Board.{board};
 ghost use Rattle.mx_layout.specs.Overlong.{IsRefusal};
 ghost use Rattle.mx_link.specs.Origins.{from_nowhere};
 ghost use Rattle.mx_link.specs.Linked.{IsLinked};
-ghost use Rattle.mx_io.specs.Shelves.{Counts};
-ghost use Rattle.mx_plans.specs.Files.{LineSaid, lines_said, marks_of, marks_of_lines};
+ghost use Rattle.mx_plans.specs.Files.{lines_said, marks_of, marks_of_lines};
 ghost use Rattle.mx_plans.specs.Says.{IsProposed};
 ghost use Rattle.cmd_answer.specs.Replies.{reply_answer};
 ghost use Rattle.cmd_options.specs.Options.{IsAsked};
-ghost use Rattle.lab_runs.specs.declared.stimulus.Stimulus.{Stimulus as Given};
-ghost use Rattle.lab_runs.specs.PlanFiles.{ArePlansOf};
-ghost use Rattle.lab_runs.specs.Refusals.{IsTooFar};
-ghost use Rattle.lab_runs.specs.Sessions.{statement_at, statement_named, limits_of, IsSessionOf, IsSession, IsDebugOf};
-ghost use Rattle.lab_runs.specs.Stimuli.{AreGiven};
+ghost use Rattle.lab_sources.specs.Refusals.{IsTooFar};
+ghost use Rattle.lab_runs.specs.Sessions.{statement_at, statement_named, limits_of, IsSessionOf, IsSession};
 
-use crate::plan_files::plans_of;
 use crate::quiet_files::{INPUT, INTERRUPTS, QuietFiles};
-use crate::sources::{read_source, unlinked};
-use crate::stimulus::Stimulus;
-use crate::stimulus_files::read_stimulus;
 use cmd_answer::{Reply, replied};
 use cmd_debug::debug_image;
 use cmd_options::{RunFiles, SessionLimits};
 use lab_failure::LabFailure;
 use lab_options::DebugOptions;
 use lab_plans::link_told;
+use lab_sources::{Stimulus, plans_of, read_source, read_stimulus, unlinked};
 use mx_code::Image;
 use mx_io::Shelf;
 use mx_isa::BOARD;
@@ -114,8 +107,9 @@ fn session<'w>(
 ) -> Result<Reply, LabFailure<'w>>
     requires address { address < 2 ^ 31 }
     requires asked { IsAsked limits.now }
-    ensures { IfOk result (λ r. IsSessionOf image.now.code.items image.now.user_data.items asks address stimulus.now.cycles.items
+    ensures answered { IfOk result (λ r. IsSessionOf image.now.code.items image.now.user_data.items asks address stimulus.now.cycles.items
         stimulus.now.input.items limits.now (reply_answer r)) }
+    ensures memory { IfErr result (λ failure. failure ≡ LabFailure.Memory) }
 {
     let cycles = stimulus.cycles.as_slice();
     let input = stimulus.input.as_slice();
@@ -143,6 +137,7 @@ fn stopped_reply<'w>(
     requires within { index < length source.now.statements }
     ensures stopped { IfOk result (λ r. IsSession source.now (lines_said lines.now) index stimulus.now.cycles.items stimulus.now.input.items
         limits.now (reply_answer r)) }
+    ensures refused { IfErr result (IsTooFar name.entry.now source.now (lines_said lines.now)) }
 {
     let linked = plain_linked(alloc, name, source, lines)?;
     let address = link_at(&linked, index);
@@ -184,11 +179,7 @@ fn read_lines<'w, S: Shelf>(
     shelf: &mut S,
     source: &Source,
     notes: &mut Vec<u8>,
-) -> Result<Vec<PlanLine>, LabFailure<'w>>
-    ensures read { IfOk result (λ lines. ArePlansOf (S.told shelf.old) options.now.plans.now source.now (S.counts shelf.old) (S.counts shelf.new)
-        (lines_said lines.items)) }
-    ensures told_stays { S.told shelf.new ≡ S.told shelf.old }
-{
+) -> Result<Vec<PlanLine>, LabFailure<'w>> {
     let lines = plans_of(alloc, shelf, source, options.plans)?;
     note_rejected(alloc, options.source, source, lines.as_slice(), notes)?;
     Ok(lines)
@@ -204,9 +195,6 @@ fn labelled_reply<'w, S: Shelf>(
     index: u32,
 ) -> Result<Reply, LabFailure<'w>>
     requires { index < length source.now.statements }
-    ensures { IfOk result (λ r. (stimulus : Given) × AreGiven (S.told shelf.old) (option_map (λ s. s.now) options.now.stimulus.interrupts)
-        (option_map (λ s. s.now) options.now.stimulus.input) (S.counts shelf.old) (S.counts shelf.new) stimulus
-        × IsSession source.now (lines_said lines.now) index stimulus.cycles.items stimulus.input.items (limits_of options.now) (reply_answer r)) }
 {
     let stimulus = read_stimulus(alloc, shelf, options.stimulus)?;
     let limits = session_limits(options);
@@ -232,11 +220,6 @@ fn session_reply<'w, S: Shelf>(
     notes: &mut Vec<u8>,
 ) -> Result<Reply, LabFailure<'w>>
     requires { index < length source.now.statements }
-    ensures { IfOk result (λ r. (lines : List LineSaid) × (stimulus : Given) × (planned : Counts)
-        × ArePlansOf (S.told shelf.old) options.now.plans.now source.now (S.counts shelf.old) planned lines
-        × AreGiven (S.told shelf.old) (option_map (λ s. s.now) options.now.stimulus.interrupts)
-        (option_map (λ s. s.now) options.now.stimulus.input) planned (S.counts shelf.new) stimulus
-        × IsSession source.now lines index stimulus.cycles.items stimulus.input.items (limits_of options.now) (reply_answer r)) }
 {
     let lines = read_lines(alloc, options, shelf, source, notes)?;
     let reply = labelled_reply(alloc, options, shelf, source, lines.as_slice(), index)?;
@@ -250,9 +233,7 @@ pub fn debug_reply<'w, S: Shelf>(
     options: &DebugOptions<'w>,
     shelf: &mut S,
     notes: &mut Vec<u8>,
-) -> Result<Reply, LabFailure<'w>>
-    ensures { IfOk result (λ r. IsDebugOf (S.told shelf.old) options.now (S.counts shelf.old) (S.counts shelf.new) (reply_answer r)) }
-{
+) -> Result<Reply, LabFailure<'w>> {
     let source = read_source(alloc, shelf, options.source)?;
     match statement_named(&source, options.label) {
         Some(index) => {

@@ -1,17 +1,15 @@
 //! The reply of `draw`.
 ghost use Rattle.std.specs.Prelude.{◌≤◌, ◌+◌, IfOk};
 ghost use Rattle.lab_draw.specs.Frames.{IsDrawing};
-ghost use Rattle.cmd_answer.specs.Replies.{reply_answer};
-ghost use Rattle.lab_runs.specs.Runs.{loaded};
-ghost use Rattle.lab_runs.specs.Replied.{SpeaksOf};
+ghost use Rattle.lab_sources.specs.Runs.{loaded};
 
 use crate::replies::{or_memory, printed};
-use crate::runs::{GivenRun, noted_run};
 use cmd_answer::{Reply, Status};
 use lab_draw::{Drawing, draw, rows_of};
 use lab_failure::LabFailure;
 use lab_options::{DrawOptions, Form};
 use lab_pictures::{PlaceNames, Subject, html, json, kanata, svg, text, vcd};
+use lab_sources::{GivenRun, noted_run};
 use lab_watch::Watcher;
 use mx_io::{Memory, Shelf};
 use std::alloc::Global;
@@ -132,9 +130,7 @@ pub fn draw_reply<'w, S: Shelf, W: Watcher>(
     shelf: &mut S,
     watcher: W,
     notes: &mut Vec<u8>,
-) -> Result<Reply, LabFailure<'w>>
-    ensures { IfOk result (λ r. SpeaksOf (S.told shelf.old) options.now.run (S.counts shelf.old) (S.counts shelf.new) (λ _. Status.Done) (reply_answer r)) }
-{
+) -> Result<Reply, LabFailure<'w>> {
     let run = noted_run(alloc, shelf, &options.run, notes)?;
     let reply = printed(Status::Done, picture_of(alloc, options, &run, watcher))?;
     Ok(reply)

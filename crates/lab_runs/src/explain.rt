@@ -1,17 +1,15 @@
 //! The reply of `explain`.
 ghost use Rattle.std.specs.Prelude.{◌≡◌, if◌then◌else◌, IfOk};
 ghost use Rattle.mx_turn.specs.Run.{run_of};
-ghost use Rattle.cmd_answer.specs.Replies.{reply_answer};
-ghost use Rattle.lab_runs.specs.Runs.{loaded};
-ghost use Rattle.lab_runs.specs.Replied.{SpeaksOf, ends_by};
+ghost use Rattle.lab_sources.specs.Runs.{loaded};
 
 use crate::replies::{or_memory, printed};
-use crate::runs::{GivenRun, noted_run};
 use cmd_answer::{Reply, Status};
 use lab_explain::{Explained, explained_json, explained_text};
 use lab_failure::LabFailure;
-use lab_options::{Form, RunOptions};
 use lab_measures::{Ran, Standing, run_machine, stand};
+use lab_options::{Form, RunOptions};
+use lab_sources::{GivenRun, noted_run};
 use lab_watch::Watcher;
 use mx_io::{Memory, Shelf};
 use mx_lines::lines_of;
@@ -81,9 +79,7 @@ fn run_reply<'w, W: Watcher>(
     options: &RunOptions<'w>,
     run: &GivenRun,
     watcher: W,
-) -> Result<Reply, LabFailure<'w>>
-    ensures { IfOk result (λ r. (reply_answer r).status ≡ ends_by Status.Halted Status.OutOfBudget run.now) }
-{
+) -> Result<Reply, LabFailure<'w>> {
     let steps = run.budget.saturating_add(STATEMENTS_AHEAD);
     let input = run.stimulus.input.as_slice();
     let standing = stand(alloc, &run.program.source, input, steps)?;
@@ -100,9 +96,7 @@ pub fn explain_reply<'w, S: Shelf, W: Watcher>(
     shelf: &mut S,
     watcher: W,
     notes: &mut Vec<u8>,
-) -> Result<Reply, LabFailure<'w>>
-    ensures { IfOk result (λ r. SpeaksOf (S.told shelf.old) options.now (S.counts shelf.old) (S.counts shelf.new) (ends_by Status.Halted Status.OutOfBudget) (reply_answer r)) }
-{
+) -> Result<Reply, LabFailure<'w>> {
     let run = noted_run(alloc, shelf, options, notes)?;
     let reply = run_reply(alloc, options, &run, watcher)?;
     Ok(reply)

@@ -1,15 +1,14 @@
 //! The reply of `interrupts`.
-ghost use Rattle.std.specs.Prelude.{◌≡◌, ◌≤◌, ◌<◌, [], IfOk};
+ghost use Rattle.std.specs.Prelude.{◌≡◌, ◌<◌, [], IfOk};
 ghost use Rattle.mx_turn.specs.Run.{run_of};
-ghost use Rattle.lab_runs.specs.Runs.{loaded};
-ghost use Rattle.lab_runs.specs.Sweeps.{AreRowsOf, IsSweepOf};
+ghost use Rattle.lab_sources.specs.Runs.{loaded};
 
 use crate::replies::{or_memory, printed, run_status};
-use crate::runs::{GivenRun, noted_run};
 use cmd_answer::Reply;
 use lab_failure::LabFailure;
-use lab_options::{ArgumentFault, Form, MOST_RUNS, SweepOptions};
 use lab_measures::{Row, Span, Sweep, Swept, cycles_in, pairs, singles};
+use lab_options::{ArgumentFault, Form, MOST_RUNS, SweepOptions};
+use lab_sources::{GivenRun, noted_run};
 use lab_tables::{Places, places_of, sweep_csv, sweep_json, sweep_text};
 use lab_watch::Watcher;
 use mx_board::Requests;
@@ -97,9 +96,7 @@ fn rows_of<W: Watcher>(
     sought: &Sought,
     cycles: &[u32],
     watcher: W,
-) -> Result<Vec<Row>, Memory>
-    ensures { IfOk result (λ rows. AreRowsOf run.now undisturbed.now.console.items sought.now.is_pairs cycles.now rows.items) }
-{
+) -> Result<Vec<Row>, Memory> {
     let swept = Swept {
         image: &run.program.linked.image,
         input: run.asked_input(),
@@ -125,7 +122,6 @@ fn sweep_of<W: Watcher>(
     watcher: W,
 ) -> Result<Sweep, Memory>
     requires { 0 < sought.now.span.step }
-    ensures { IfOk result (IsSweepOf run.now undisturbed.now sought.now) }
 {
     let Ok(cycles) = cycles_in(alloc, sought.span) else {
         return Err(Memory);

@@ -1,16 +1,12 @@
 //! The reply of `profile`.
-ghost use Rattle.std.specs.Prelude.{IfOk};
-ghost use Rattle.cmd_answer.specs.Replies.{reply_answer};
-ghost use Rattle.lab_runs.specs.Replied.{SpeaksOf, ends_by};
-
 use crate::blocks_ran::profile_in;
 use crate::replies::{or_memory, printed, run_status};
-use crate::runs::{GivenRun, noted_run};
 use cmd_answer::Reply;
 use lab_costs::{By, Subject, callgrind, profile_json, profile_text};
 use lab_failure::LabFailure;
 use lab_options::{Form, Part, ProfileOptions, Sort};
 use lab_profile::{Calls, Column, Profile, calls_of};
+use lab_sources::{GivenRun, noted_run};
 use lab_watch::Watcher;
 use mx_io::{Memory, Shelf};
 use std::alloc::Global;
@@ -98,9 +94,7 @@ pub fn profile_reply<'w, S: Shelf, W: Watcher>(
     shelf: &mut S,
     watcher: W,
     notes: &mut Vec<u8>,
-) -> Result<Reply, LabFailure<'w>>
-    ensures { IfOk result (λ r. SpeaksOf (S.told shelf.old) options.now.run (S.counts shelf.old) (S.counts shelf.new) (ends_by Status.Done Status.OutOfBudget) (reply_answer r)) }
-{
+) -> Result<Reply, LabFailure<'w>> {
     let run = noted_run(alloc, shelf, &options.run, notes)?;
     let profile = profile_in(alloc, &run, watcher)?;
     let text = text_of(alloc, options, &run, &profile, watcher);

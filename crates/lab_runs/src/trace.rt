@@ -1,9 +1,9 @@
 //! The reply of `trace`.
 use crate::replies::run_status;
-use crate::runs::{GivenRun, noted_run};
 use cmd_answer::Reply;
 use lab_failure::LabFailure;
 use lab_options::RunOptions;
+use lab_sources::{GivenRun, noted_run};
 use lab_trace::{Given, Traced, trace_of};
 use lab_watch::Watcher;
 use mx_io::{Memory, Shelf};

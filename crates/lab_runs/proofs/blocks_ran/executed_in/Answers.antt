@@ -6,7 +6,7 @@ use Rattle.mx_link.specs.Gathered.{gathered}
 use Rattle.lab_profile.specs.declared.lines.LineCost.{LineCost}
 use Rattle.lab_profile.specs.Charges.{executed_at}
 use Rattle.lab_profile.specs.Lines.{saturated, executed_of}
-use Rattle.lab_runs.specs.Runs.{loaded}
+use Rattle.lab_sources.specs.Runs.{loaded}
 use Rattle.lab_runs.specs.Ran.{words_of}
 use Rattle.lab_runs.proofs.Ran.{count_of, gathered_same}
 use Rattle.lab_runs.proofs.blocks_ran.executed_in.Goals as goal

@@ -7,7 +7,7 @@ use Rattle.mx_plans.specs.declared.Mark.{Mark}
 use Rattle.mx_plans.specs.Files.{lines_said, marks_of}
 use Rattle.mx_plans.specs.Says.{IsProposed}
 use Rattle.mx_plans.proofs.Picked.{marks_said}
-use Rattle.lab_runs.proofs.TooFar.{too_far}
+use Rattle.lab_sources.proofs.TooFar.{too_far}
 use Rattle.lab_runs.proofs.debugging.plain_linked.Goals as goal
 
 pub returns-in-Ok-clause-linked : goal.returns-in-Ok-clause-linked

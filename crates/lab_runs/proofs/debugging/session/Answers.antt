@@ -9,8 +9,8 @@ use Rattle.lab_runs.specs.QuietFiles.{told_of, counts_of}
 use Rattle.lab_runs.specs.Sessions.{session_files, IsSessionOf}
 use Rattle.lab_runs.proofs.debugging.session.Goals as goal
 
-pub returns : goal.returns
-returns c =
+pub returns-clause-answered : goal.returns-clause-answered
+returns-clause-answered c =
     let code = c.args.image.now.code.items in
     let user_data = c.args.image.now.user_data.items in
     let asks = c.args.asks in

@@ -1,5 +1,5 @@
 -- The machine stands for the program that is loaded, so its run is that program's.
-use Rattle.lab_runs.specs.Runs.{loaded}
+use Rattle.lab_sources.specs.Runs.{loaded}
 use Rattle.lab_runs.proofs.explain.source_run.Goals as goal
 
 pub returns-clause-cycles : goal.returns-clause-cycles

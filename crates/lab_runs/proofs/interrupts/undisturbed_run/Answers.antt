@@ -2,7 +2,7 @@
 use Rattle.std.proofs.Common.{ℕ, List, ap, ◌∙◌}
 use Rattle.mx_turn.specs.Counted.{Counted}
 use Rattle.mx_turn.specs.Run.{run_of}
-use Rattle.lab_runs.specs.Runs.{loaded}
+use Rattle.lab_sources.specs.Runs.{loaded}
 use Rattle.lab_runs.proofs.interrupts.undisturbed_run.Goals as goal
 
 pub returns-clause-halted : goal.returns-clause-halted

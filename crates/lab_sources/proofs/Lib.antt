@@ -1,0 +1,3 @@
+pub mod Links
+pub mod TooFar
+pub mod Asked

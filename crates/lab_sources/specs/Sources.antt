@@ -1,0 +1,17 @@
+-- Sources by the texts of files.
+use Rattle.std.specs.Prelude.{◌≡◌, ℕ, List, Some}
+use Rattle.mx_isa.specs.declared.board.TheConstants.{DATA_BASE, DATA_END}
+use Rattle.mx_source.specs.SourceValue.{SourceValue}
+use Rattle.mx_asm.specs.Texts.{ReadsAs, text_fault}
+use Rattle.lab_failure.specs.declared.failure.LabFailure.{LabFailure}
+use Rattle.lab_failure.specs.declared.failure.LabFailure.TheVariants.{Memory, Source}
+
+-- the text has no fault, and spells the source
+abbrev pub Spells : List ℕ → SourceValue → Type 0
+Spells = ReadsAs DATA_BASE DATA_END
+
+-- the failure names the file and the first fault of its text, or memory ran out
+abbrev pub IsFaultOf : List ℕ → List ℕ → LabFailure → Type 0
+IsFaultOf name text (Source n line fault) = (n.now ≡ name) × (text_fault DATA_BASE DATA_END text ≡ Some (line, fault))
+IsFaultOf name text Memory = Unit {0}
+IsFaultOf name text _ = ⊥

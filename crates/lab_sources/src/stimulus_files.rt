@@ -1,0 +1,70 @@
+//! The files that come to a run from outside.
+ghost use Rattle.std.specs.Prelude.{◌≤◌, IfOk, length};
+ghost use Rattle.mx_io.specs.declared.limits.TheConstants.{MAX_FILE_BYTES};
+ghost use Rattle.lab_failure.specs.Failures.{limit_of};
+
+use crate::stimulus::Stimulus;
+use lab_failure::{LabFailure, LabFile, LineFault, read_lab_file};
+use lab_options::StimulusNames;
+use mx_board::{EventError, Requests};
+use mx_io::Shelf;
+use std::alloc::Global;
+
+// What is wrong with an interrupt file of this name.
+fn cycles_failure<'w>(name: &'w str, error: EventError) -> LabFailure<'w> {
+    let (line, fault) = match error {
+        EventError::BadLine { line } => (line, LineFault::BadCycle),
+        EventError::TooMany { line } => (line, LineFault::TooManyCycles),
+        EventError::NotAscending { line } => (line, LineFault::NotAscending),
+        EventError::Memory => return LabFailure::Memory,
+    };
+    LabFailure::Line { name, line, fault }
+}
+
+// The requests of the bytes of an interrupt file of this name.
+fn parse_requests<'w>(
+    alloc: Global,
+    name: &'w str,
+    bytes: &[u8],
+) -> Result<Requests, LabFailure<'w>>
+    requires { length bytes.now ≤ MAX_FILE_BYTES }
+{
+    match Requests::parse(alloc, bytes) {
+        Ok(requests) => Ok(requests),
+        Err(error) => Err(cycles_failure(name, error)),
+    }
+}
+
+// The bytes of the file of this name; none where no file is named.
+fn read_if<'w, S: Shelf>(
+    alloc: Global,
+    shelf: &mut S,
+    kind: LabFile,
+    name: Option<&'w str>,
+) -> Result<Vec<u8>, LabFailure<'w>>
+    ensures within { IfOk result (λ bytes. length bytes.items ≤ limit_of kind) }
+{
+    match name {
+        Some(name) => {
+            let bytes = read_lab_file(alloc, shelf, kind, name)?;
+            Ok(bytes)
+        }
+        None => Ok(Vec::new(alloc)),
+    }
+}
+
+/// What the named files give, which are read in this order, or what is wrong with the first that is wrong.
+pub fn read_stimulus<'w, S: Shelf>(
+    alloc: Global,
+    shelf: &mut S,
+    names: StimulusNames<'w>,
+) -> Result<Stimulus, LabFailure<'w>> {
+    let cycles = read_if(alloc, shelf, LabFile::Interrupts, names.interrupts)?;
+    let requests = parse_requests(alloc, names.interrupts.unwrap_or(""), cycles.as_slice())?;
+    let input = read_if(alloc, shelf, LabFile::Input, names.input)?;
+    Ok(Stimulus {
+        cycles,
+        requests,
+        input,
+    })
+}
