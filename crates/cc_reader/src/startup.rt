@@ -1,8 +1,6 @@
 //! The functions that run before `main`, and after it.
 
-use crate::item::{Object, Reference, Startup, number_behind};
-use crate::program::Program;
-use crate::symbols::Meaning;
+use cc_program::{Meaning, Object, Program, Reference, Startup, number_behind};
 use std::alloc::{AllocError, Global};
 
 /// Adds the words of a list of functions to its datum.

@@ -1,20 +1,16 @@
 //! Reading the texts.
-ghost use Rattle.std.specs.Prelude.{◌≡◌, ◌<◌, ◌↔◌, IfOk};
+ghost use Rattle.std.specs.Prelude.{IfOk};
 ghost use Rattle.cc_program.specs.Programs;
-ghost use Rattle.cc_rules.specs.Names;
 
-use crate::error::{ReadError, error_at};
-use crate::item::{Function, Item, number_behind};
 use crate::layout::lay_out;
-use crate::program::Program;
 use crate::reach::reach;
-use crate::symbols::Meaning;
 use cc_lines::{
     Constants, Directive, DirectiveLine, Instruction, Line, LineError, Lines, MOST_LABELS, Refusal,
     Register, Section, Statement, Width, first_statement, is_numbered, label_before, line_read,
     names_numbered, without_comment,
 };
-use cc_rules::{LONGEST_NAME, file_key, has_slot, spelled_len};
+use cc_program::{Function, Item, Meaning, Program, ReadError, error_at, number_behind};
+use cc_rules::{file_key, has_slot};
 use indexmap::IndexMap;
 use std::alloc::{AllocError, Global};
 
@@ -290,19 +286,6 @@ impl<'a> Reader<'a> {
         }
     }
 
-    /// The number of a name, if lines of a source have room for it.
-    pub(crate) fn symbol(&mut self, name: &'a [u8]) -> Result<u32, LineError>
-        ensures { result ≡ Err (LineError.Refused Refusal.LongName) ↔ LONGEST_NAME < Names.spelled_len name.now }
-    {
-        if spelled_len(name) > LONGEST_NAME {
-            return Err(LineError::Refused(Refusal::LongName));
-        }
-        match self.program.symbols.number(name) {
-            Ok(number) => Ok(number),
-            Err(_) => Err(LineError::Memory),
-        }
-    }
-
     /// A new symbol for a label that is a number.
     fn add_numbered(&mut self, name: &'a [u8]) -> Result<u32, LineError> {
         self.numbered_count = self.numbered_count.saturating_add(1);
@@ -350,7 +333,7 @@ impl<'a> Reader<'a> {
             [digits @ .., direction] if names_numbered(name) => {
                 self.numbered_symbol(digits, *direction == b'f')
             }
-            _ => self.symbol(name),
+            _ => self.program.symbols.number_if_short(name),
         }
     }
 
@@ -383,7 +366,7 @@ impl<'a> Reader<'a> {
     fn begin_function(&mut self, name: &'a [u8]) -> Result<(), LineError> {
         self.end_function();
         let weak = self.is_weak(name);
-        let symbol = self.symbol(name)?;
+        let symbol = self.program.symbols.number_if_short(name)?;
         let number = self.program.functions.len();
         let meaning = Meaning::Function(number_behind(number)?);
         self.define(symbol, meaning, weak)?;
@@ -427,7 +410,7 @@ impl<'a> Reader<'a> {
             Section::Code => self.begin_function(name),
             Section::Data => {
                 let weak = self.is_weak(name);
-                let symbol = self.symbol(name)?;
+                let symbol = self.program.symbols.number_if_short(name)?;
                 self.begin_object(symbol, weak)
             }
             Section::Notes | Section::Calls { .. } => Ok(()),
@@ -436,7 +419,7 @@ impl<'a> Reader<'a> {
 
     /// A label with a name in code that is local to its function.
     fn local_label(&mut self, name: &'a [u8]) -> Result<(), LineError> {
-        let symbol = self.symbol(name)?;
+        let symbol = self.program.symbols.number_if_short(name)?;
         self.place_label(symbol)
     }
 
@@ -528,14 +511,14 @@ impl<'a> Reader<'a> {
     /// One name for another.
     fn alias(&mut self, name: &'a [u8], target: &'a [u8]) -> Result<(), LineError> {
         let weak = self.is_weak(name);
-        let number = self.symbol(name)?;
-        let other = self.symbol(target)?;
+        let number = self.program.symbols.number_if_short(name)?;
+        let other = self.program.symbols.number_if_short(target)?;
         self.define(number, Meaning::Alias(other), weak)
     }
 
     /// `.weak`.
     fn weaken(&mut self, name: &'a [u8]) -> Result<(), LineError> {
-        let number = self.symbol(name)?;
+        let number = self.program.symbols.number_if_short(name)?;
         self.program.symbols.weaken(number);
         Ok(())
     }

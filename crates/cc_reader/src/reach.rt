@@ -1,11 +1,10 @@
 //! What `main` reaches.
 
-use crate::error::{Fault, ReadError};
-use crate::item::{Function, Item, Object, Reference, number_behind};
-use crate::program::Program;
 use crate::startup::add_lists;
-use crate::symbols::Meaning;
 use cc_lines::{Instruction, LinkFrom, Refusal, Register};
+use cc_program::{
+    Fault, Function, Item, Meaning, Object, Program, ReadError, Reference, number_behind,
+};
 use cc_rules::is_last;
 use std::alloc::{AllocError, Global};
 

@@ -1,9 +1,8 @@
 //! Reading data.
 
-use crate::item::{Content, Object, Reference, Startup, Within, number_behind};
 use crate::reading::Reader;
-use crate::symbols::Meaning;
 use cc_lines::{Directive, LineError, Refusal, Section, Values, Word, push_quoted};
+use cc_program::{Content, Meaning, Object, Reference, Startup, Within, number_behind};
 use cc_rules::aligned;
 
 /// How many bytes a datum has at most: more than any memory.
@@ -102,9 +101,9 @@ impl<'a> Reader<'a> {
         addend: u32,
     ) -> Result<(), LineError> {
         let weak = self.is_weak(name);
-        let symbol = self.symbol(name)?;
+        let symbol = self.program.symbols.number_if_short(name)?;
         let within = Within {
-            symbol: self.symbol(other)?,
+            symbol: self.program.symbols.number_if_short(other)?,
             addend,
             line: self.position.line,
         };
@@ -123,7 +122,7 @@ impl<'a> Reader<'a> {
         size: u32,
         align: u32,
     ) -> Result<(), LineError> {
-        let symbol = self.symbol(name)?;
+        let symbol = self.program.symbols.number_if_short(name)?;
         if let Meaning::Object(number) = self.program.symbols.meaning(symbol) {
             if let Some(object) = self.program.objects.as_mut_slice().get_mut(number as usize) {
                 object.content.size = object.content.size.max(size);
@@ -228,7 +227,7 @@ impl<'a> Reader<'a> {
 
     /// Adds a function to those that run before or after `main`.
     fn push_call(&mut self, after: bool, order: u32, name: &'a [u8]) -> Result<(), LineError> {
-        let symbol = self.symbol(name)?;
+        let symbol = self.program.symbols.number_if_short(name)?;
         self.program.calls.push(Startup {
             symbol,
             after,

@@ -1,6 +1,6 @@
 //! Where data are.
 
-use crate::program::Program;
+use cc_program::Program;
 use cc_rules::{FIRST_BYTE, aligned};
 
 /// Data of at most so many bytes come first, then those of at most so many, so that most have short addresses.
