@@ -49,12 +49,13 @@ def toolchain():
     text, readers = text_of("crates/cmd_table/src/command.rt"), text_of("crates/cmd_table/src/readers.rt")
     lists = {name: re.findall(r'"(\w+)"', words) for name, words in re.findall(r"const (\w+_OPTIONS): .*? = \[(.*?)\];", text)}
     limits = {name: number(value) for name, value in re.findall(r"const (\w+_MODULES): usize = (\d+);", text)}
+    known = {**constants(readers), "u32::MAX": 2**32 - 1}
     found, ranges = {}, {}
     for body in re.split(r"\n(?=(?:pub )?fn )", readers):
         name = re.match(r"(?:pub )?fn (\w+)", body)
-        rows = re.findall(r"(number_or|optional|number)\(\*?(\w+), ((?:[0-9_]+(?:, )?)+)\)", body)
+        rows = re.findall(r"(number_or|optional|number)\(\*?(\w+), ((?:[\w:]+(?:, )?)+)\)\?", body)
         for how, option, numbers in rows:
-            values = [number(it) for it in numbers.split(", ")]
+            values = [known[it] if it in known else number(it) for it in numbers.split(", ")]
             for command in SHARED.get(name[1], (name[1].removesuffix("_read"),)):
                 ranges[command, option] = values if how == "number_or" else [None, *values]
     for word, options, fewest, most in re.findall(r'Row \{ word: "(\w+)", options: &(\[\]|\w+), fewest: (\w+), most: (\w+),', text):

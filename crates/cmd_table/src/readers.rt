@@ -11,6 +11,31 @@ use crate::numbers::{number, number_or, optional};
 use cmd_line::Read;
 use cmd_options::{Limits, RunFiles, SessionLimits};
 
+/// The most cycles of a run, and those of one whose budget is not given.
+const MOST_BUDGET: u32 = 100_000_000;
+
+const USUAL_BUDGET: u32 = 1_000_000;
+
+/// The most statements that `meaning` executes: those of each run within the most cycles, and the words of the pipeline behind them.
+const MOST_STEPS: u32 = 100_000_064;
+
+/// The most cycles of a trace.
+const MOST_TRACED: u32 = 10_000;
+
+/// The first data word, and the last one.
+const FIRST_WORD: u32 = 256;
+
+const LAST_WORD: u32 = 65_535;
+
+/// The most data words that are printed.
+const MOST_WORDS: u32 = 65_536;
+
+/// The most stops of a session.
+const MOST_STOPS: u32 = 1_000;
+
+/// The most statements of a generated source.
+const MOST_GENERATED: u32 = 4_000;
+
 // The limits that four options give; None where a number is faulty.
 fn limits_of(
     budget: Option<&str>,
@@ -21,10 +46,10 @@ fn limits_of(
     ensures { result ≡ limits_of (option_map (λ s. s.now) budget.entry) (option_map (λ s. s.now) trace.entry) (option_map (λ s. s.now) dump.entry)
         (option_map (λ s. s.now) count.entry) }
 {
-    let budget = number_or(budget, 1_000_000, 0, 100_000_000)?;
-    let trace = number_or(trace, 0, 0, 10_000)?;
-    let dump = optional(dump, 0, 65_535)?;
-    let count = number_or(count, 1, 1, 65_536)?;
+    let budget = number_or(budget, USUAL_BUDGET, 0, MOST_BUDGET)?;
+    let trace = number_or(trace, 0, 0, MOST_TRACED)?;
+    let dump = optional(dump, 0, LAST_WORD)?;
+    let count = number_or(count, 1, 1, MOST_WORDS)?;
     Some(Limits {
         budget,
         trace,
@@ -83,7 +108,7 @@ pub fn meaning_read<'a>(read: &Read<'a>) -> Option<Command<'a>>
 {
     match (read.names.as_slice(), read.values.as_slice()) {
         ([source], [steps, input]) => {
-            let steps = number_or(*steps, 1_000_000, 0, 100_000_064)?;
+            let steps = number_or(*steps, USUAL_BUDGET, 0, MOST_STEPS)?;
             Some(Command::Meaning {
                 source: *source,
                 steps,
@@ -158,8 +183,8 @@ fn read_seeded(read: &Read) -> Option<Seeded>
 {
     match (read.names.as_slice(), read.values.as_slice()) {
         ([seed, count], []) => {
-            let seed = number(seed, 0, 4_294_967_295)?;
-            let count = number(count, 0, 4_000)?;
+            let seed = number(seed, 0, u32::MAX)?;
+            let count = number(count, 0, MOST_GENERATED)?;
             Some(Seeded { seed, count })
         }
         _ => None,
@@ -205,7 +230,7 @@ pub fn share_read<'a>(read: &Read<'a>) -> Option<Command<'a>>
 {
     match (read.names.as_slice(), read.values.as_slice()) {
         ([first, second], [budget, interrupts]) => {
-            let budget = number_or(*budget, 1_000_000, 0, 100_000_000)?;
+            let budget = number_or(*budget, USUAL_BUDGET, 0, MOST_BUDGET)?;
             Some(Command::Share {
                 first: *first,
                 second: *second,
@@ -227,9 +252,9 @@ fn session_limits_of(
         ≡ session_limits_of (option_map (λ s. s.now) stops.entry) (option_map (λ s. s.now) watch.entry) (option_map (λ s. s.now) budget.entry) }
     ensures asked { IfSome result IsAsked }
 {
-    let stops = number_or(stops, 1, 1, 1_000)?;
-    let watch = number_or(watch, 256, 256, 65_535)?;
-    let budget = number_or(budget, 1_000_000, 0, 100_000_000)?;
+    let stops = number_or(stops, 1, 1, MOST_STOPS)?;
+    let watch = number_or(watch, FIRST_WORD, FIRST_WORD, LAST_WORD)?;
+    let budget = number_or(budget, USUAL_BUDGET, 0, MOST_BUDGET)?;
     Some(SessionLimits {
         stops,
         watch,

@@ -153,7 +153,7 @@ fn named_by(by: By) -> &'static str {
 
 // Appends what the cycles were spent on.
 fn push_spent(text: &mut Writer, on: Spent) {
-    let all = on.together();
+    let all = on.cycles();
     let told = [
         (on.instructions, "instructions"),
         (on.noops, "no-ops that were put in"),

@@ -2,7 +2,7 @@
 use super::advice::{advice_of, name_of, reason_of};
 use lab_json::{Document, Value};
 use lab_measures::{Ran, Standing};
-use lab_terms::{Verdict, enough, verdict_of};
+use lab_terms::{Verdict, enough_budget, verdict_of};
 use lab_writer::Writer;
 use mx_source::Why;
 use std::alloc::{AllocError, Global};
@@ -48,10 +48,10 @@ impl Explained<'_> {
     }
 
     // The budget that is enough, where the meaning halts.
-    fn enough(&self) -> Option<u64> {
+    fn bound(&self) -> Option<u64> {
         match self.verdict() {
             Verdict::AsMeant | Verdict::BudgetShort => {
-                Some(enough(self.standing.progress.steps, self.requests))
+                Some(enough_budget(self.standing.progress.steps, self.requests))
             }
             _ => None,
         }
@@ -116,7 +116,7 @@ fn push_stuck(text: &mut Writer, explained: &Explained, why: Why) {
 fn push_enough(text: &mut Writer, steps: u32, requests: u32) {
     text.push_numbers(
         &["; a budget of ", " is enough with "],
-        &[enough(steps, requests)],
+        &[enough_budget(steps, requests)],
     );
     push_counted(text, u64::from(requests), "interrupt request");
 }
@@ -189,7 +189,7 @@ fn push_budget_premise(text: &mut Writer, budget: u32, bound: u64) {
 fn push_premises(text: &mut Writer, explained: &Explained) {
     text.push_str(PREMISES);
     push_stuck_premise(text, explained.steps, explained.why().is_none());
-    if let Some(bound) = explained.enough() {
+    if let Some(bound) = explained.bound() {
         push_budget_premise(text, explained.budget, bound);
     }
 }
@@ -228,7 +228,7 @@ fn write_standing(document: &mut Document, explained: &Explained) {
         ("budget", u64::from(explained.budget)),
         ("requests", u64::from(explained.requests)),
     ]);
-    document.push_member("enough", Value::number(explained.enough()));
+    document.push_member("enough", Value::number(explained.bound()));
 }
 
 // Writes the line of a statement, or null where there is none.

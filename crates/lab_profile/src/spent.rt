@@ -20,8 +20,8 @@ pub struct Spent {
 }
 
 impl Spent {
-    /// All of them.
-    pub fn together(self) -> u64
+    /// The cycles of the run: all of them.
+    pub fn cycles(self) -> u64
         ensures { result ≡ spent_together self }
     {
         self.instructions

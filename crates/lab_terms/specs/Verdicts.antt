@@ -13,5 +13,5 @@ verdict ending.Running halted = Unended
 verdict (ending.Stuck why) halted = Stuck why
 
 -- the budget with which a run halts whose meaning halts in n statements, under k interrupt requests
-abbrev pub enough : ℕ → ℕ → ℕ
-enough n k = 9 * n + 96 * k + 16
+abbrev pub enough_budget : ℕ → ℕ → ℕ
+enough_budget n k = 9 * n + 96 * k + 16

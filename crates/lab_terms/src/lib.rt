@@ -16,4 +16,4 @@ pub use given::given_to;
 pub use places::{Place, Slot, place_at};
 pub use reach::{Ways, reached, ways_of};
 pub use slots::{Filling, Slots, TransferSlots, slots_of};
-pub use verdict::{Verdict, enough, verdict_of};
+pub use verdict::{Verdict, enough_budget, verdict_of};

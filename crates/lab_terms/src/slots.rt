@@ -111,11 +111,11 @@ impl TransferSlots {
     pub fn all(self) -> u32
         ensures { result ≡ slots_in self }
     {
-        self.filled().saturating_add(self.noops)
+        self.filled_slots().saturating_add(self.noops)
     }
 
     /// How many hold an instruction.
-    pub fn filled(self) -> u32
+    pub fn filled_slots(self) -> u32
         ensures { result ≡ filled_of self }
     {
         self.before

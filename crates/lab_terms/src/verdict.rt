@@ -36,8 +36,8 @@ pub fn verdict_of(ending: Ending, halted: bool) -> Verdict
 }
 
 /// The budget with which a run halts whose meaning halts in so many statements, under so many interrupt requests.
-pub fn enough(statements: u32, requests: u32) -> u64
-    ensures { result ≡ Verdicts.enough statements requests }
+pub fn enough_budget(statements: u32, requests: u32) -> u64
+    ensures { result ≡ Verdicts.enough_budget statements requests }
 {
     9 * u64::from(statements) + 96 * u64::from(requests) + 16
 }

@@ -28,7 +28,7 @@ fn cells_of(figures: &Figures, padded: &Figures) -> [Cell; 5] {
     [
         Some((words, padded.words as u64)),
         Some((figures.noops as u64, words)),
-        Some((slots.filled() as u64, slots.all() as u64)),
+        Some((slots.filled_slots() as u64, slots.all() as u64)),
         Some((loads.filled as u64, loads.all as u64)),
         cycles_of(figures, padded),
     ]
