@@ -1,7 +1,7 @@
 //! The translation of texts.
-ghost use Rattle.std.specs.Prelude.{◌≡◌, ◌≤◌, ◌++◌, List, ℕ, IfErr, IfOk, OnOk};
+ghost use Rattle.std.specs.Prelude.{◌≡◌, ◌≤◌, ℕ, IfErr, IfOk, OnOk};
 ghost use Rattle.cc_emit.specs.Errors.{IsTooMany};
-ghost use Rattle.cc_emit.specs.Sources.{code_text};
+ghost use Rattle.cc_emit.specs.Sources;
 
 use crate::functions::translate_function;
 use cc_emit::{
@@ -63,7 +63,7 @@ fn text_of<'a>(
     behind: u64,
 ) -> Result<Vec<u8>, TranslateError<'a>>
     ensures refused { IfErr result (λ e. IsTooMany e) }
-    ensures code { IfOk result (λ text. (rest : List ℕ) × (text.items ≡ code_text program.now out.now.lines.items ++ rest)) }
+    ensures source { IfOk result (λ text. (end : ℕ) × (text.items ≡ Sources.source_text program.now out.now behind end)) }
 {
     let end = end_of(out, behind);
     limit_words(end.saturating_sub(FIRST_BYTE) / 4)?;
