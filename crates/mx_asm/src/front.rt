@@ -87,7 +87,7 @@ pub fn has_dotted_label(words: &[Word]) -> bool
 }
 
 /// The line defines a label.
-pub fn has_label(words: &[Word]) -> bool
+pub(crate) fn has_label(words: &[Word]) -> bool
     ensures { result ≡ Positions.has_label (map word words.now) }
 {
     let mut rest = words;

@@ -77,7 +77,7 @@ fn stands_past(end: u32, position: &Position, words: &[Word]) -> bool
 }
 
 /// The data section.
-pub fn is_data(section: &Section) -> bool
+pub(crate) fn is_data(section: &Section) -> bool
     ensures { result ≡ Faults.is_data section.now }
 {
     match section {
