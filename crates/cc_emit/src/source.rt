@@ -77,6 +77,11 @@ pub fn source_text(
     let mut text = Text::new(alloc);
     put_code(&mut text, program, &out.lines)?;
     put_data(alloc, &mut text, program, out, behind, end)?;
-    put_size(&mut text, out.statements, out.instructions, words_before(end))?;
+    put_size(
+        &mut text,
+        out.statements,
+        out.instructions,
+        words_before(end),
+    )?;
     Ok(text.into_bytes())
 }
