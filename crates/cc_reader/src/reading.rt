@@ -199,17 +199,22 @@ impl<'a> Reader<'a> {
     /// Notes what a directive says of a name.
     fn note_told(&mut self, name: &'a [u8], told: Told) -> Result<(), AllocError> {
         match told {
-            Told::Own => self.labels.push(name)?,
-            Told::Shared => {
-                if self.shared.get(name).is_none() {
-                    self.shared.insert(name, false)?;
-                }
-            }
-            Told::Weak => {
-                self.shared.insert(name, true)?;
-            }
-            Told::Nothing => {}
+            Told::Own => self.note_own(name),
+            Told::Shared if self.shared.get(name).is_none() => self.share(name, false),
+            Told::Weak => self.share(name, true),
+            Told::Shared | Told::Nothing => Ok(()),
         }
+    }
+
+    /// Notes a name that the text defines.
+    fn note_own(&mut self, name: &'a [u8]) -> Result<(), AllocError> {
+        self.labels.push(name)?;
+        Ok(())
+    }
+
+    /// Notes a name that the text shares with others.
+    fn share(&mut self, name: &'a [u8], weak: bool) -> Result<(), AllocError> {
+        self.shared.insert(name, weak)?;
         Ok(())
     }
 
@@ -294,22 +299,35 @@ impl<'a> Reader<'a> {
 
     /// The symbol of the last label that is this number, or of the next one.
     fn numbered_symbol(&mut self, name: &'a [u8], is_next: bool) -> Result<u32, LineError> {
-        let found = match self.numbered.get(name) {
+        let found = self.numbered_before(name);
+        if !is_next {
+            return match found.last {
+                Some(last) => Ok(last),
+                None => Err(LineError::Refused(Refusal::Undefined)),
+            };
+        }
+        match found.next {
+            Some(next) => Ok(next),
+            None => self.next_numbered(name, found.last),
+        }
+    }
+
+    /// The symbols of the labels that are this number.
+    fn numbered_before(&self, name: &[u8]) -> Numbered {
+        match self.numbered.get(name) {
             Some(found) => *found,
             None => Numbered {
                 last: None,
                 next: None,
             },
-        };
-        if !is_next {
-            return found.last.ok_or(LineError::Refused(Refusal::Undefined));
         }
-        if let Some(next) = found.next {
-            return Ok(next);
-        }
+    }
+
+    /// A new symbol for the next label that is this number.
+    fn next_numbered(&mut self, name: &'a [u8], last: Option<u32>) -> Result<u32, LineError> {
         let next = self.add_numbered(name)?;
         let found = Numbered {
-            last: found.last,
+            last,
             next: Some(next),
         };
         self.numbered.insert(name, found)?;
@@ -367,6 +385,11 @@ impl<'a> Reader<'a> {
         self.end_function();
         let weak = self.is_weak(name);
         let symbol = self.program.symbols.number_if_short(name)?;
+        self.add_function(symbol, weak)
+    }
+
+    /// Adds a function without items.
+    fn add_function(&mut self, symbol: u32, weak: bool) -> Result<(), LineError> {
         let number = self.program.functions.len();
         let meaning = Meaning::Function(number_behind(number)?);
         self.define(symbol, meaning, weak)?;
@@ -454,19 +477,33 @@ impl<'a> Reader<'a> {
         if let Some(refusal) = self.refusal_of(&read) {
             return Err(LineError::Refused(refusal));
         }
-        let symbol = match read.symbol {
-            Some(name) => Some(self.named(name)?),
-            None => None,
-        };
+        let symbol = self.named_by(read.symbol)?;
         self.push_instruction(read.instruction, symbol)?;
         for instruction in &read.behind {
-            match instruction {
-                Instruction::Nop => {}
-                Instruction::Store { .. } => self.push_instruction(*instruction, symbol)?,
-                _ => self.push_instruction(*instruction, None)?,
-            }
+            self.push_behind(*instruction, symbol)?;
         }
         Ok(())
+    }
+
+    /// The symbol that an instruction names, if it names one.
+    fn named_by(&mut self, name: Option<&'a [u8]>) -> Result<Option<u32>, LineError> {
+        match name {
+            Some(name) => Ok(Some(self.named(name)?)),
+            None => Ok(None),
+        }
+    }
+
+    /// Adds one of the instructions after the first one of a statement: where it stores, it names the same symbol.
+    fn push_behind(
+        &mut self,
+        instruction: Instruction,
+        symbol: Option<u32>,
+    ) -> Result<(), LineError> {
+        match instruction {
+            Instruction::Nop => Ok(()),
+            Instruction::Store { .. } => self.push_instruction(instruction, symbol),
+            _ => self.push_instruction(instruction, None),
+        }
     }
 
     /// Adds an instruction to its function.
