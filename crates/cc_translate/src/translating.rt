@@ -66,7 +66,8 @@ fn text_of<'a>(
     ensures source { IfOk result (λ text. (end : ℕ) × (text.items ≡ Sources.source_text program.now out.now behind end)) }
 {
     let end = end_of(out, behind);
-    limit_words(end.saturating_sub(FIRST_BYTE) / 4)?;
+    let words = end.saturating_sub(FIRST_BYTE) / 4;
+    limit_words(words)?;
     let text = source_text(alloc, program, out, behind as u32, end as u32)?;
     Ok(text)
 }
