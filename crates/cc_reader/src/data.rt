@@ -92,7 +92,8 @@ impl<'a> Reader<'a> {
         size: u32,
         align: u32,
     ) -> Result<(), LineError> {
-        self.define_object(symbol, self.program.objects.len(), weak)?;
+        let number = self.program.objects.len();
+        self.define_object(symbol, number, weak)?;
         let object = Object::new(self.alloc, symbol, self.position.unit, size, align);
         self.program.objects.push(object)?;
         Ok(())
