@@ -36,10 +36,10 @@ item_more f xs i d before now after h e more =
     more ∙ (ap (λ t. t ++ f (get_or xs i d)) e ∙ (flat_map_more f before (take i xs) (get_or xs i d)
     ∙ ap (λ ys. before ++ flat_map f ys) (sym (take_more xs i d h))))
 
--- a text that begins with the code
+-- the text of a source: its code, its data, and its size
 pub whole_text : (code more size b c e text : List ℕ) → b ≡ code → c ≡ b ++ more → e ≡ c ++ size → text ≡ e
-    → (rest : List ℕ) × (text ≡ code ++ rest)
-whole_text code more size b c e text h k i j = (more ++ size, j ∙ (two_more b more size c e k i ∙ ap (λ t. t ++ (more ++ size)) h))
+    → text ≡ code ++ (more ++ size)
+whole_text code more size b c e text h k i j = j ∙ (two_more b more size c e k i ∙ ap (λ t. t ++ (more ++ size)) h)
 
 -- the data: their beginning, the image, and the words that the translation adds
 pub whole_data : (front words image added a b c d : List ℕ) → b ≡ a ++ front → c ≡ b ++ words → words ≡ image → d ≡ c ++ added

@@ -1,5 +1,6 @@
 pub mod Assembly
 pub mod Data
+pub mod Errors
 pub mod Images
 pub mod Labels
 pub mod Lines

@@ -1,5 +1,6 @@
 -- The text of a source.
-use Rattle.std.specs.Prelude.{ℕ, cond, ◌==◌, List, [], ◌++◌, codes, decimal}
+use Rattle.std.specs.Prelude.{ℕ, ◌-◌, ◌/◌, cond, ◌==◌, List, [], ◌++◌, codes, decimal}
+use Rattle.cc_rules.specs.declared.numbers.TheConstants.{FIRST_BYTE}
 use Rattle.cc_program.specs.declared.program.Program.{Program}
 use Rattle.cc_emit.specs.declared.line.Line.{Line}
 use Rattle.cc_emit.specs.declared.output.Output.{Output}
@@ -35,3 +36,8 @@ words_text p image = image_text p image.bytes Nothing image.said
 
 abbrev pub data_text : Program → Output → ℕ → ℕ → List ℕ
 data_text p out behind end = front_text out.input ++ words_text p (image_of p behind end) ++ added_text out end
+
+-- the whole text: the code, the data, and the size in a comment
+abbrev pub source_text : Program → Output → ℕ → ℕ → List ℕ
+source_text p out behind end =
+    code_text p out.lines.items ++ (data_text p out behind end ++ size_text out.statements out.instructions ((end - FIRST_BYTE) / 4))

@@ -1,6 +1,8 @@
 //! The lines of a translation and their text, the routines that they call, and its data.
 #![tactic(auto)]
 
+mod error;
+mod limits;
 mod line;
 mod operand;
 mod output;
@@ -10,6 +12,8 @@ mod source;
 mod text;
 mod words;
 
+pub use error::TranslateError;
+pub use limits::{MOST_STATEMENTS, limit_statements, limit_words};
 pub use line::{
     Computed, Line, Mask, Plain, Routine, Target, Transfer, Word, compute_line, is_short,
     shift_line,

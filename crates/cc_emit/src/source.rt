@@ -1,5 +1,5 @@
 //! The text of a source.
-ghost use Rattle.std.specs.Prelude.{◌≡◌, ◌++◌, List, ℕ, codes, IfOk, OnOk};
+ghost use Rattle.std.specs.Prelude.{◌≡◌, ◌++◌, ◌-◌, ◌/◌, codes, IfOk, OnOk};
 ghost use Rattle.cc_emit.specs.Lines.{lines_text};
 ghost use Rattle.cc_emit.specs.Sources;
 
@@ -55,6 +55,14 @@ fn put_code(text: &mut Text, program: &Program, lines: &[Line]) -> Result<(), Al
     put_lines(text, program, lines)
 }
 
+/// How many words of data there are before a byte.
+fn words_before(end: u32) -> u32
+    ensures { result ≡ (end - FIRST_BYTE) / 4 }
+{
+    let words = u64::from(end).saturating_sub(FIRST_BYTE) / 4;
+    words as u32
+}
+
 /// The text of a source, whose data begin at the first byte of data, those of the program end before the byte `behind`, and all before
 /// `end`: its code, its data, and its size in a comment.
 pub fn source_text(
@@ -64,12 +72,16 @@ pub fn source_text(
     behind: u32,
     end: u32,
 ) -> Result<Vec<u8>, AllocError>
-    ensures { IfOk result (λ text. (rest : List ℕ) × (text.items ≡ Sources.code_text program.now out.now.lines.items ++ rest)) }
+    ensures { IfOk result (λ text. text.items ≡ Sources.source_text program.now out.now behind end) }
 {
     let mut text = Text::new(alloc);
     put_code(&mut text, program, &out.lines)?;
     put_data(alloc, &mut text, program, out, behind, end)?;
-    let words = u64::from(end).saturating_sub(FIRST_BYTE) / 4;
-    put_size(&mut text, out.statements, out.instructions, words as u32)?;
+    put_size(
+        &mut text,
+        out.statements,
+        out.instructions,
+        words_before(end),
+    )?;
     Ok(text.into_bytes())
 }

@@ -1,9 +1,11 @@
--- What becomes of symbols while texts are read, which only functions of this crate cite.
+-- What becomes of symbols while texts are read.
 use Rattle.std.specs.Prelude.{ℕ, Bool, true, false, ◌≡◌, ◌⊎◌, not, ◌&&◌, ◌||◌, if◌then◌else◌, List, [], ◌∷◌, ◌++◌, length, take, Some, None, option_map, unwrap_or, slice_get, slice_set}
 use Rattle.std.specs.Borrow.{Bor}
+use Rattle.indexmap.specs.IndexMap.{IsEmpty}
 use Rattle.cc_program.specs.declared.symbols.Meaning.{Meaning}
 use Rattle.cc_program.specs.declared.symbols.Meaning.TheVariants.{Unknown}
 use Rattle.cc_program.specs.declared.symbols.Symbol.{Symbol}
+use Rattle.cc_program.specs.declared.symbols.Symbols.{Symbols}
 
 -- no text has defined it so far
 abbrev pub is_unknown : Meaning → Bool
@@ -46,3 +48,7 @@ MayGain symbol before after = (after ≡ before) ⊎ (after ≡ before ++ symbol
 -- the symbols that were there are there
 abbrev pub Extends : List Symbol → List Symbol → Type 0
 Extends before after = take (length before) after ≡ before
+
+-- no name is one of the current text alone
+abbrev pub HasNoOwnNames : Symbols → Type 0
+HasNoOwnNames symbols = IsEmpty symbols.own

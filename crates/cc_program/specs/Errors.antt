@@ -1,4 +1,4 @@
--- Why texts are not read, which only functions of this crate cite.
+-- Why texts are not read.
 use Rattle.std.specs.Prelude.{ℕ, None}
 use Rattle.cc_lines.specs.declared.refusal.LineError.{LineError}
 use Rattle.cc_lines.specs.declared.refusal.LineError.TheVariants.{Refused, Memory as LineMemory}

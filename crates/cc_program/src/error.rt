@@ -38,7 +38,7 @@ impl<'a> From<AllocError> for ReadError<'a> {
 }
 
 /// The error of a statement of a line.
-pub(crate) fn error_at<'a>(unit: u32, line: u32, statement: u32, error: LineError) -> ReadError<'a>
+pub fn error_at<'a>(unit: u32, line: u32, statement: u32, error: LineError) -> ReadError<'a>
     ensures { result ≡ Errors.error_at unit line statement error }
 {
     match error {

@@ -5,7 +5,7 @@ use cc_lines::Instruction;
 use std::alloc::{AllocError, Global};
 
 /// The number of what follows so many others, if 32 bits hold it.
-pub(crate) fn number_behind(count: usize) -> Result<u32, AllocError>
+pub fn number_behind(count: usize) -> Result<u32, AllocError>
     ensures ok { IfOk result (λ number. number ≡ count) }
     ensures err { OnErr result (2 ^ 32 ≤ count) }
 {
@@ -55,7 +55,7 @@ pub struct Function {
 
 impl Function {
     /// A function without items, which would begin with this one.
-    pub(crate) fn new(symbol: u32, unit: u32, first: usize) -> Function
+    pub fn new(symbol: u32, unit: u32, first: usize) -> Function
         ensures { result ≡ record { symbol = symbol; unit = unit; first = first; end = first; points = false; frame = 0; masked_link = None; saved_link = None; calls = false; computes = false; kept = false } }
     {
         Function {
@@ -133,7 +133,7 @@ pub struct Object {
 
 impl Object {
     /// A datum of zeros that nothing was found to need.
-    pub(crate) fn new(alloc: Global, symbol: u32, unit: u32, size: u32, align: u32) -> Object
+    pub fn new(alloc: Global, symbol: u32, unit: u32, size: u32, align: u32) -> Object
         ensures names { (result.symbol ≡ symbol) × (result.unit ≡ unit) }
         ensures zeros { (result.content.size ≡ size) × (result.content.bytes.items ≡ []) × (result.content.references.items ≡ []) }
         ensures standing { result.standing ≡ record { align = align; address = 0 } }

@@ -24,7 +24,7 @@ pub struct Program<'a> {
 
 impl<'a> Program<'a> {
     /// A program with nothing in it.
-    pub(crate) fn new(alloc: Global) -> Result<Program<'a>, AllocError>
+    pub fn new(alloc: Global) -> Result<Program<'a>, AllocError>
         ensures { IfOk result (λ program. Programs.IsEmpty program) }
     {
         Ok(Program {
@@ -39,7 +39,7 @@ impl<'a> Program<'a> {
     }
 
     /// The function with a number.
-    pub(crate) fn function(&self, number: u32) -> Option<Function>
+    pub fn function(&self, number: u32) -> Option<Function>
         ensures { result ≡ slice_get self.now.functions.items number }
     {
         self.functions.get(number as usize).copied()

@@ -1,10 +1,12 @@
 //! What names mean.
-ghost use Rattle.std.specs.Prelude.{◌≡◌, ◌++◌, ◌∷◌, [], IfOk, OnOk, OnErr, length, slice_get};
-ghost use Rattle.indexmap.specs.IndexMap.{IsEmpty};
+ghost use Rattle.std.specs.Prelude.{◌≡◌, ◌<◌, ◌↔◌, ◌++◌, ◌∷◌, [], IfOk, OnOk, OnErr, length, slice_get};
 ghost use Rattle.cc_program.specs.Changes;
 ghost use Rattle.cc_program.specs.Programs;
+ghost use Rattle.cc_rules.specs.Names;
 
 use crate::item::number_behind;
+use cc_lines::{LineError, Refusal};
+use cc_rules::{LONGEST_NAME, spelled_len};
 use indexmap::IndexMap;
 use std::alloc::{AllocError, Global};
 
@@ -65,7 +67,7 @@ const MOST_ALIASES: u32 = 16;
 
 impl<'a> Symbols<'a> {
     /// The names that the translation defines, alone.
-    pub(crate) fn new(alloc: Global) -> Result<Symbols<'a>, AllocError> {
+    pub fn new(alloc: Global) -> Result<Symbols<'a>, AllocError> {
         let mut symbols = Symbols {
             list: Vec::new(alloc),
             shared: IndexMap::new(alloc),
@@ -79,15 +81,15 @@ impl<'a> Symbols<'a> {
     }
 
     /// Begins a text, which has no names of its own yet.
-    pub(crate) fn begin_unit(&mut self)
+    pub fn begin_unit(&mut self)
         ensures list { self.new.list.items ≡ self.old.list.items }
-        ensures own { IsEmpty self.new.own }
+        ensures own { Changes.HasNoOwnNames self.new }
     {
         self.own.clear();
     }
 
     /// Adds a name that nothing defines so far.
-    pub(crate) fn push(&mut self, name: &'a [u8], owner: u32) -> Result<u32, AllocError>
+    pub fn push(&mut self, name: &'a [u8], owner: u32) -> Result<u32, AllocError>
         ensures number { IfOk result (λ number. number ≡ length self.old.list.items) }
         ensures kept { Changes.Extends self.old.list.items self.new.list.items }
         ensures pushed { OnOk result (self.new.list.items ≡ self.old.list.items ++ Changes.fresh name.entry owner ∷ []) }
@@ -106,7 +108,7 @@ impl<'a> Symbols<'a> {
     }
 
     /// Makes a name one of the text with this number, counted from 1.
-    pub(crate) fn make_own(&mut self, name: &'a [u8], owner: u32) -> Result<(), AllocError>
+    pub fn make_own(&mut self, name: &'a [u8], owner: u32) -> Result<(), AllocError>
         ensures kept { Changes.Extends self.old.list.items self.new.list.items }
         ensures gained { Changes.MayGain (Changes.fresh name.entry owner) self.old.list.items self.new.list.items }
     {
@@ -118,7 +120,7 @@ impl<'a> Symbols<'a> {
     }
 
     /// The number of a name in the current text.
-    pub(crate) fn number(&mut self, name: &'a [u8]) -> Result<u32, AllocError>
+    pub fn number(&mut self, name: &'a [u8]) -> Result<u32, AllocError>
         ensures kept { Changes.Extends self.old.list.items self.new.list.items }
         ensures gained { Changes.MayGain (Changes.fresh name.entry 0) self.old.list.items self.new.list.items }
     {
@@ -131,6 +133,19 @@ impl<'a> Symbols<'a> {
         let number = self.push(name, 0)?;
         self.shared.insert(name, number)?;
         Ok(number)
+    }
+
+    /// The number of a name in the current text, if lines of a source have room for it.
+    pub fn number_if_short(&mut self, name: &'a [u8]) -> Result<u32, LineError>
+        ensures { result ≡ Err (LineError.Refused Refusal.LongName) ↔ LONGEST_NAME < Names.spelled_len name.now }
+    {
+        if spelled_len(name) > LONGEST_NAME {
+            return Err(LineError::Refused(Refusal::LongName));
+        }
+        match self.number(name) {
+            Ok(number) => Ok(number),
+            Err(_) => Err(LineError::Memory),
+        }
     }
 
     /// The symbol with a number.
@@ -172,7 +187,7 @@ impl<'a> Symbols<'a> {
     }
 
     /// Defines a symbol. Answers false where it is defined already, and neither is weak, or where there is none.
-    pub(crate) fn define(&mut self, number: u32, meaning: Meaning, weak: bool) -> bool
+    pub fn define(&mut self, number: u32, meaning: Meaning, weak: bool) -> bool
         ensures answer { result ≡ Changes.may_define self.old.list.items number weak }
         ensures list { self.new.list.items ≡ Changes.changed (Changes.defined meaning weak) number self.old.list.items }
     {
@@ -191,7 +206,7 @@ impl<'a> Symbols<'a> {
     }
 
     /// Lets a symbol that is defined nowhere be one that need not be.
-    pub(crate) fn weaken(&mut self, number: u32)
+    pub fn weaken(&mut self, number: u32)
         ensures { self.new.list.items ≡ Changes.changed Changes.weakened number self.old.list.items }
     {
         if let Some(symbol) = self.list.get_mut(number as usize) {
@@ -202,7 +217,7 @@ impl<'a> Symbols<'a> {
     }
 
     /// Marks a symbol as named.
-    pub(crate) fn use_it(&mut self, number: u32)
+    pub fn use_it(&mut self, number: u32)
         ensures { self.new.list.items ≡ Changes.changed Changes.marked (Programs.resolved self.old.list.items number) self.old.list.items }
     {
         let resolved = self.resolved(number) as usize;
@@ -222,7 +237,7 @@ impl<'a> Symbols<'a> {
     }
 
     /// Lets a datum hold the place of a symbol.
-    pub(crate) fn describe(&mut self, number: u32, object: u32)
+    pub fn describe(&mut self, number: u32, object: u32)
         ensures { self.new.list.items ≡ Changes.changed (Changes.described object) number self.old.list.items }
     {
         if let Some(symbol) = self.list.get_mut(number as usize) {

@@ -1,23 +1,19 @@
 //! The translation of texts.
-ghost use Rattle.std.specs.Prelude.{◌≡◌, ◌≤◌, ◌++◌, List, ℕ, IfErr, IfOk, OnOk};
-ghost use Rattle.cc_translate.specs.declared.translating.TheConstants.{MOST_STATEMENTS};
-ghost use Rattle.cc_emit.specs.Sources.{code_text};
-ghost use Rattle.cc_translate.specs.Errors.{IsTooMany};
+ghost use Rattle.std.specs.Prelude.{◌≡◌, ◌≤◌, ℕ, IfErr, IfOk, OnOk};
+ghost use Rattle.cc_emit.specs.Errors.{IsTooMany};
+ghost use Rattle.cc_emit.specs.Sources;
 
-use crate::error::TranslateError;
 use crate::functions::translate_function;
-use cc_emit::{Line, Output, Plain, Target, Transfer, Word, end_of, put_routines, source_text};
+use cc_emit::{
+    Line, MOST_STATEMENTS, Output, Plain, Target, Transfer, TranslateError, Word, end_of,
+    limit_statements, limit_words, put_routines, source_text,
+};
 use cc_lines::Register;
 use cc_plan::STACK_WORDS;
-use cc_program::{Fault, Program, Reader};
+use cc_program::{Fault, Program};
+use cc_reader::Reader;
 use cc_rules::FIRST_BYTE;
 use std::alloc::{AllocError, Global};
-
-/// How many statements a source has at most.
-const MOST_STATEMENTS: u32 = 20_000;
-
-/// How many words of data a source has at most, without those that are left for heap and stack.
-const MOST_WORDS: u64 = 63_232;
 
 /// Adds the beginning, which calls `main` with a stack.
 fn put_start(out: &mut Output, main: u32) -> Result<(), AllocError> {
@@ -67,13 +63,11 @@ fn text_of<'a>(
     behind: u64,
 ) -> Result<Vec<u8>, TranslateError<'a>>
     ensures refused { IfErr result (λ e. IsTooMany e) }
-    ensures code { IfOk result (λ text. (rest : List ℕ) × (text.items ≡ code_text program.now out.now.lines.items ++ rest)) }
+    ensures source { IfOk result (λ text. (end : ℕ) × (text.items ≡ Sources.source_text program.now out.now behind end)) }
 {
     let end = end_of(out, behind);
     let words = end.saturating_sub(FIRST_BYTE) / 4;
-    if words > MOST_WORDS {
-        return Err(TranslateError::Words(words));
-    }
+    limit_words(words)?;
     let text = source_text(alloc, program, out, behind as u32, end as u32)?;
     Ok(text)
 }
@@ -103,11 +97,7 @@ fn put_all<'a>(
             symbol: None,
         }));
     }
-    if out.statements > MOST_STATEMENTS {
-        let crossing = crossing_name(out, program);
-        return Err(TranslateError::Statements(out.statements, crossing));
-    }
-    Ok(())
+    limit_statements(out.statements, crossing_name(out, program))
 }
 
 /// What a program becomes.

@@ -1,9 +1,8 @@
 //! Reading data.
 
-use crate::item::{Content, Object, Reference, Startup, Within, number_behind};
 use crate::reading::Reader;
-use crate::symbols::Meaning;
 use cc_lines::{Directive, LineError, Refusal, Section, Values, Word, push_quoted};
+use cc_program::{Content, Meaning, Object, Reference, Startup, Within, number_behind};
 use cc_rules::aligned;
 
 /// How many bytes a datum has at most: more than any memory.
@@ -79,6 +78,12 @@ fn push_reference(content: &mut Content, bytes: u8, one: Reference) -> Result<()
 }
 
 impl<'a> Reader<'a> {
+    /// Lets a symbol mean the datum with a number.
+    fn define_object(&mut self, symbol: u32, number: usize, weak: bool) -> Result<(), LineError> {
+        let number = number_behind(number)?;
+        self.define(symbol, Meaning::Object(number), weak)
+    }
+
     /// Adds a datum of zeros. Where it is weak, texts may share it.
     fn add_object(
         &mut self,
@@ -87,8 +92,8 @@ impl<'a> Reader<'a> {
         size: u32,
         align: u32,
     ) -> Result<(), LineError> {
-        let number = number_behind(self.program.objects.len())?;
-        self.define(symbol, Meaning::Object(number), weak)?;
+        let number = self.program.objects.len();
+        self.define_object(symbol, number, weak)?;
         let object = Object::new(self.alloc, symbol, self.position.unit, size, align);
         self.program.objects.push(object)?;
         Ok(())
@@ -102,18 +107,24 @@ impl<'a> Reader<'a> {
         addend: u32,
     ) -> Result<(), LineError> {
         let weak = self.is_weak(name);
-        let symbol = self.symbol(name)?;
-        let within = Within {
-            symbol: self.symbol(other)?,
-            addend,
-            line: self.position.line,
-        };
-        let number = number_behind(self.program.objects.len())?;
-        self.define(symbol, Meaning::Object(number), weak)?;
-        let mut object = Object::new(self.alloc, symbol, self.position.unit, 0, 1);
-        object.within = Some(within);
-        self.program.objects.push(object)?;
+        let symbol = self.program.symbols.number_if_short(name)?;
+        let other = self.program.symbols.number_if_short(other)?;
+        let number = self.program.objects.len();
+        self.add_object(symbol, weak, 0, 1)?;
+        self.place_within(number, other, addend);
         Ok(())
+    }
+
+    /// Lets the datum with a number be a place so many bytes after a symbol.
+    fn place_within(&mut self, number: usize, symbol: u32, addend: u32) {
+        let line = self.position.line;
+        if let Some(object) = self.program.objects.as_mut_slice().get_mut(number) {
+            object.within = Some(Within {
+                symbol,
+                addend,
+                line,
+            });
+        }
     }
 
     /// Adds a datum that texts may share: the largest size and alignment that they name count.
@@ -123,7 +134,7 @@ impl<'a> Reader<'a> {
         size: u32,
         align: u32,
     ) -> Result<(), LineError> {
-        let symbol = self.symbol(name)?;
+        let symbol = self.program.symbols.number_if_short(name)?;
         if let Meaning::Object(number) = self.program.symbols.meaning(symbol) {
             if let Some(object) = self.program.objects.as_mut_slice().get_mut(number as usize) {
                 object.content.size = object.content.size.max(size);
@@ -134,23 +145,29 @@ impl<'a> Reader<'a> {
         self.add_object(symbol, true, size, align)
     }
 
-    /// The datum that lines add to, if it has no bytes so far.
-    fn begun(&self) -> Option<usize> {
-        let number = self.position.data.object?;
-        let object = self.program.objects.get(number)?;
-        if object.content.size == 0 {
-            Some(number)
-        } else {
-            None
+    /// Whether a datum has no bytes so far.
+    fn is_empty(&self, number: usize) -> bool {
+        match self.program.objects.get(number) {
+            Some(object) => object.content.size == 0,
+            None => false,
         }
     }
 
     /// A label of data: of a new datum, or one more of a datum that has no bytes so far.
     pub(crate) fn begin_object(&mut self, symbol: u32, weak: bool) -> Result<(), LineError> {
-        if let Some(number) = self.begun() {
-            return self.define(symbol, Meaning::Object(number_behind(number)?), weak);
+        match self.position.data.object {
+            Some(number) if self.is_empty(number) => self.define_object(symbol, number, weak),
+            before => self.begin_next(symbol, weak, before),
         }
-        let before = self.position.data.object;
+    }
+
+    /// A label of a new datum, which follows another one.
+    fn begin_next(
+        &mut self,
+        symbol: u32,
+        weak: bool,
+        before: Option<usize>,
+    ) -> Result<(), LineError> {
         let number = self.program.objects.len();
         let align = self.position.data.align;
         self.position.data.align = 1;
@@ -192,16 +209,27 @@ impl<'a> Reader<'a> {
         Ok(&mut self.object()?.content)
     }
 
-    /// Adds one value.
-    fn push_value(&mut self, bytes: u8, value: Word<'a>) -> Result<(), LineError> {
-        let (symbol, addend, from) = match value {
-            Word::Number(value) => return push_number(self.content()?, bytes, value),
-            Word::Symbol(name, addend) => (self.named(name)?, addend, None),
-            Word::Distance { from, to } => {
-                let to = self.named(to)?;
-                (to, 0, Some(self.named(from)?))
-            }
-        };
+    /// What a line of data adds to: all its bytes are held, and what is added is at a multiple of so many bytes.
+    fn filled(&mut self, align: u32) -> Result<&mut Content, LineError> {
+        self.align(align)?;
+        let content = self.content()?;
+        fill(content)?;
+        Ok(content)
+    }
+
+    /// Adds a number's low bytes.
+    fn push_low(&mut self, bytes: u8, value: u64) -> Result<(), LineError> {
+        push_number(self.content()?, bytes, value)
+    }
+
+    /// Adds a word for a symbol and an addend, less another symbol, if there is one.
+    fn push_word(
+        &mut self,
+        bytes: u8,
+        symbol: u32,
+        addend: u32,
+        from: Option<u32>,
+    ) -> Result<(), LineError> {
         let one = Reference {
             at: 0,
             symbol,
@@ -210,6 +238,25 @@ impl<'a> Reader<'a> {
             line: self.position.line,
         };
         push_reference(self.content()?, bytes, one)
+    }
+
+    /// Adds a distance.
+    fn push_distance(&mut self, bytes: u8, from: &'a [u8], to: &'a [u8]) -> Result<(), LineError> {
+        let to = self.named(to)?;
+        let from = self.named(from)?;
+        self.push_word(bytes, to, 0, Some(from))
+    }
+
+    /// Adds one value.
+    fn push_value(&mut self, bytes: u8, value: Word<'a>) -> Result<(), LineError> {
+        match value {
+            Word::Number(value) => self.push_low(bytes, value),
+            Word::Symbol(name, addend) => {
+                let symbol = self.named(name)?;
+                self.push_word(bytes, symbol, addend, None)
+            }
+            Word::Distance { from, to } => self.push_distance(bytes, from, to),
+        }
     }
 
     /// Adds the functions that values name to those that run before or after `main`.
@@ -228,7 +275,7 @@ impl<'a> Reader<'a> {
 
     /// Adds a function to those that run before or after `main`.
     fn push_call(&mut self, after: bool, order: u32, name: &'a [u8]) -> Result<(), LineError> {
-        let symbol = self.symbol(name)?;
+        let symbol = self.program.symbols.number_if_short(name)?;
         self.program.calls.push(Startup {
             symbol,
             after,
@@ -236,6 +283,18 @@ impl<'a> Reader<'a> {
             unit: self.position.unit,
             line: self.position.line,
         })?;
+        Ok(())
+    }
+
+    /// Adds each of some values.
+    fn push_all(&mut self, bytes: u8, text: &'a [u8]) -> Result<(), LineError> {
+        let mut values = Values::new(text);
+        for _ in 0..values.most() {
+            match values.next_value(&self.constants)? {
+                Some(value) => self.push_value(bytes, value)?,
+                None => break,
+            }
+        }
         Ok(())
     }
 
@@ -249,12 +308,21 @@ impl<'a> Reader<'a> {
         if let Section::Calls { after, order } = self.position.sections.now {
             return self.push_calls(after, order, text);
         }
-        self.align(if is_aligned { u32::from(bytes) } else { 1 })?;
-        fill(self.content()?)?;
+        let _content = self.filled(if is_aligned { u32::from(bytes) } else { 1 })?;
+        self.push_all(bytes, text)
+    }
+
+    /// Adds each of some floating-point numbers.
+    fn push_all_floats(
+        &mut self,
+        bytes: u8,
+        double: bool,
+        text: &'a [u8],
+    ) -> Result<(), LineError> {
         let mut values = Values::new(text);
         for _ in 0..values.most() {
-            match values.next_value(&self.constants)? {
-                Some(value) => self.push_value(bytes, value)?,
+            match values.next_float(double)? {
+                Some(value) => self.push_low(bytes, value)?,
                 None => break,
             }
         }
@@ -264,44 +332,33 @@ impl<'a> Reader<'a> {
     /// Adds floating-point numbers.
     fn push_floats(&mut self, double: bool, text: &'a [u8]) -> Result<(), LineError> {
         let bytes = if double { 8u8 } else { 4 };
-        self.align(u32::from(bytes))?;
-        fill(self.content()?)?;
-        let mut values = Values::new(text);
-        for _ in 0..values.most() {
-            match values.next_float(double)? {
-                Some(value) => push_number(self.content()?, bytes, value)?,
-                None => break,
-            }
-        }
+        let _content = self.filled(u32::from(bytes))?;
+        self.push_all_floats(bytes, double, text)
+    }
+
+    /// Adds bytes that are 0.
+    fn add_zeros(&mut self, size: u32) -> Result<(), LineError> {
+        self.align(1)?;
+        let content = self.content()?;
+        content.size = content.size.saturating_add(size);
         Ok(())
     }
 
     /// Adds bytes with one value.
     fn add_space(&mut self, size: u32, byte: u8) -> Result<(), LineError> {
-        self.align(1)?;
-        let content = self.content()?;
         if byte == 0 {
-            content.size = content.size.saturating_add(size);
-            return Ok(());
+            self.add_zeros(size)
+        } else {
+            self.add_fill(size, 1, u32::from(byte))
         }
-        if size > MOST_BYTES {
-            return Err(LineError::Refused(Refusal::BadNumber));
-        }
-        fill(content)?;
-        for _ in 0..size {
-            content.bytes.push(byte)?;
-        }
-        measure(content)
     }
 
     /// Adds a number so often, of so many bytes each.
     fn add_fill(&mut self, count: u32, bytes: u8, value: u32) -> Result<(), LineError> {
-        self.align(1)?;
-        let content = self.content()?;
+        let content = self.filled(1)?;
         if count.saturating_mul(u32::from(bytes.max(1))) > MOST_BYTES {
             return Err(LineError::Refused(Refusal::BadNumber));
         }
-        fill(content)?;
         for _ in 0..count {
             push_number(content, bytes, u64::from(value))?;
         }
@@ -310,9 +367,7 @@ impl<'a> Reader<'a> {
 
     /// Adds quoted texts.
     fn push_text(&mut self, quoted: &[u8], ended: bool) -> Result<(), LineError> {
-        self.align(1)?;
-        let content = self.content()?;
-        fill(content)?;
+        let content = self.filled(1)?;
         push_quoted(&mut content.bytes, quoted, ended)?;
         measure(content)
     }

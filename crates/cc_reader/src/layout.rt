@@ -1,10 +1,28 @@
 //! Where data are.
 
-use crate::program::Program;
+use cc_program::{Object, Program};
 use cc_rules::{FIRST_BYTE, aligned};
 
 /// Data of at most so many bytes come first, then those of at most so many, so that most have short addresses.
 static SMALL: [u32; 3] = [256, 4096, u32::MAX];
+
+/// Whether a size is at most one number and more than another, where that is not 0.
+fn fits(size: u32, least: u32, most: u32) -> bool {
+    size <= most && (least == 0 || size > least)
+}
+
+/// Gives a datum its address, at a byte or the next where it may be. Answers the first byte after it.
+fn place(object: &mut Object, from: u64) -> u64 {
+    let size = object.content.size;
+    let align = if size >= 4 {
+        object.standing.align.max(4)
+    } else {
+        object.standing.align
+    };
+    let at = aligned(from, align);
+    object.standing.address = u32::try_from(at).unwrap_or(u32::MAX);
+    at.saturating_add(u64::from(size))
+}
 
 /// Gives each datum that is kept its address. Answers the first byte after all, at a multiple of 4.
 pub(crate) fn lay_out(program: &mut Program) -> u64 {
@@ -12,17 +30,8 @@ pub(crate) fn lay_out(program: &mut Program) -> u64 {
     let mut least = 0u32;
     for most in &SMALL {
         for object in program.objects.iter_mut() {
-            let size = object.content.size;
-            let fits = size <= *most && (least == 0 || size > least);
-            if object.kept && fits {
-                let align = if size >= 4 {
-                    object.standing.align.max(4)
-                } else {
-                    object.standing.align
-                };
-                at = aligned(at, align);
-                object.standing.address = u32::try_from(at).unwrap_or(u32::MAX);
-                at = at.saturating_add(u64::from(size));
+            if object.kept && fits(object.content.size, least, *most) {
+                at = place(object, at);
             }
         }
         least = *most;
@@ -32,17 +41,23 @@ pub(crate) fn lay_out(program: &mut Program) -> u64 {
     aligned(at, 4)
 }
 
+/// The first byte after a datum, if it is kept.
+fn end_of(program: &Program, number: u32) -> Option<u32> {
+    match program.objects.get(number as usize) {
+        Some(object) if object.kept => Some(
+            object.standing.address.saturating_add(object.content.size),
+        ),
+        _ => None,
+    }
+}
+
 /// Where an empty datum is that follows another one: at the end of that.
 fn end_before(program: &Program, number: usize) -> Option<u32> {
     let object = program.objects.get(number)?;
     if object.content.size > 0 {
         return None;
     }
-    let before = program.objects.get(object.after? as usize)?;
-    if !before.kept {
-        return None;
-    }
-    let end = before.standing.address.saturating_add(before.content.size);
+    let end = end_of(program, object.after?)?;
     u32::try_from(aligned(u64::from(end), object.standing.align)).ok()
 }
 

@@ -1,7 +1,7 @@
 //! Why texts are not translated.
 ghost use Rattle.std.specs.Prelude.{◌≡◌};
-ghost use Rattle.cc_translate.specs.declared.error.TranslateError.TheVariants.{Memory};
-ghost use Rattle.cc_translate.specs.Errors.{IsTooMany};
+ghost use Rattle.cc_emit.specs.declared.error.TranslateError.TheVariants.{Memory};
+ghost use Rattle.cc_emit.specs.Errors.{IsTooMany};
 
 use cc_program::{Fault, ReadError};
 use std::alloc::AllocError;

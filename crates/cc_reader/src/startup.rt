@@ -1,8 +1,6 @@
 //! The functions that run before `main`, and after it.
 
-use crate::item::{Object, Reference, Startup, number_behind};
-use crate::program::Program;
-use crate::symbols::Meaning;
+use cc_program::{Meaning, Object, Program, Reference, Startup, number_behind};
 use std::alloc::{AllocError, Global};
 
 /// Adds the words of a list of functions to its datum.
@@ -22,17 +20,24 @@ fn push_calls(object: &mut Object, calls: &[Startup], after: bool) -> Result<(),
     Ok(())
 }
 
-/// Adds a datum under a name. Answers its number.
+/// Adds an empty datum under a name, which follows another one, if there is one. Answers its number.
 fn add_datum<'a>(
+    alloc: Global,
     program: &mut Program<'a>,
     name: &'a [u8],
-    mut object: Object,
+    after: Option<u32>,
 ) -> Result<u32, AllocError> {
+    let unit = match program.calls.get(0) {
+        Some(call) => call.unit,
+        None => 0,
+    };
     let number = number_behind(program.objects.len())?;
-    object.symbol = program.symbols.number(name)?;
+    let symbol = program.symbols.number(name)?;
     let _defined = program
         .symbols
-        .define(object.symbol, Meaning::Object(number), true);
+        .define(symbol, Meaning::Object(number), true);
+    let mut object = Object::new(alloc, symbol, unit, 0, 4);
+    object.after = after;
     program.objects.push(object)?;
     Ok(number)
 }
@@ -46,16 +51,11 @@ fn add_list<'a>(
     end: &'a [u8],
     after: bool,
 ) -> Result<(), AllocError> {
-    let unit = match program.calls.get(0) {
-        Some(call) => call.unit,
-        None => 0,
-    };
-    let mut list = Object::new(alloc, 0, unit, 0, 4);
-    push_calls(&mut list, program.calls.as_slice(), after)?;
-    let number = add_datum(program, begin, list)?;
-    let mut past = Object::new(alloc, 0, unit, 0, 4);
-    past.after = Some(number);
-    let _past = add_datum(program, end, past)?;
+    let number = add_datum(alloc, program, begin, None)?;
+    if let Some(list) = program.objects.as_mut_slice().get_mut(number as usize) {
+        push_calls(list, program.calls.as_slice(), after)?;
+    }
+    let _past = add_datum(alloc, program, end, Some(number))?;
     Ok(())
 }
 

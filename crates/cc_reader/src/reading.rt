@@ -1,20 +1,16 @@
 //! Reading the texts.
-ghost use Rattle.std.specs.Prelude.{◌≡◌, ◌<◌, ◌↔◌, IfOk};
+ghost use Rattle.std.specs.Prelude.{IfOk};
 ghost use Rattle.cc_program.specs.Programs;
-ghost use Rattle.cc_rules.specs.Names;
 
-use crate::error::{ReadError, error_at};
-use crate::item::{Function, Item, number_behind};
 use crate::layout::lay_out;
-use crate::program::Program;
 use crate::reach::reach;
-use crate::symbols::Meaning;
 use cc_lines::{
     Constants, Directive, DirectiveLine, Instruction, Line, LineError, Lines, MOST_LABELS, Refusal,
     Register, Section, Statement, Width, first_statement, is_numbered, label_before, line_read,
     names_numbered, without_comment,
 };
-use cc_rules::{LONGEST_NAME, file_key, has_slot, spelled_len};
+use cc_program::{Function, Item, Meaning, Program, ReadError, error_at, number_behind};
+use cc_rules::{file_key, has_slot};
 use indexmap::IndexMap;
 use std::alloc::{AllocError, Global};
 
@@ -203,17 +199,22 @@ impl<'a> Reader<'a> {
     /// Notes what a directive says of a name.
     fn note_told(&mut self, name: &'a [u8], told: Told) -> Result<(), AllocError> {
         match told {
-            Told::Own => self.labels.push(name)?,
-            Told::Shared => {
-                if self.shared.get(name).is_none() {
-                    self.shared.insert(name, false)?;
-                }
-            }
-            Told::Weak => {
-                self.shared.insert(name, true)?;
-            }
-            Told::Nothing => {}
+            Told::Own => self.note_own(name),
+            Told::Shared if self.shared.get(name).is_none() => self.share(name, false),
+            Told::Weak => self.share(name, true),
+            Told::Shared | Told::Nothing => Ok(()),
         }
+    }
+
+    /// Notes a name that the text defines.
+    fn note_own(&mut self, name: &'a [u8]) -> Result<(), AllocError> {
+        self.labels.push(name)?;
+        Ok(())
+    }
+
+    /// Notes a name that the text shares with others.
+    fn share(&mut self, name: &'a [u8], weak: bool) -> Result<(), AllocError> {
+        self.shared.insert(name, weak)?;
         Ok(())
     }
 
@@ -290,19 +291,6 @@ impl<'a> Reader<'a> {
         }
     }
 
-    /// The number of a name, if lines of a source have room for it.
-    pub(crate) fn symbol(&mut self, name: &'a [u8]) -> Result<u32, LineError>
-        ensures { result ≡ Err (LineError.Refused Refusal.LongName) ↔ LONGEST_NAME < Names.spelled_len name.now }
-    {
-        if spelled_len(name) > LONGEST_NAME {
-            return Err(LineError::Refused(Refusal::LongName));
-        }
-        match self.program.symbols.number(name) {
-            Ok(number) => Ok(number),
-            Err(_) => Err(LineError::Memory),
-        }
-    }
-
     /// A new symbol for a label that is a number.
     fn add_numbered(&mut self, name: &'a [u8]) -> Result<u32, LineError> {
         self.numbered_count = self.numbered_count.saturating_add(1);
@@ -311,22 +299,35 @@ impl<'a> Reader<'a> {
 
     /// The symbol of the last label that is this number, or of the next one.
     fn numbered_symbol(&mut self, name: &'a [u8], is_next: bool) -> Result<u32, LineError> {
-        let found = match self.numbered.get(name) {
+        let found = self.numbered_before(name);
+        if !is_next {
+            return match found.last {
+                Some(last) => Ok(last),
+                None => Err(LineError::Refused(Refusal::Undefined)),
+            };
+        }
+        match found.next {
+            Some(next) => Ok(next),
+            None => self.next_numbered(name, found.last),
+        }
+    }
+
+    /// The symbols of the labels that are this number.
+    fn numbered_before(&self, name: &[u8]) -> Numbered {
+        match self.numbered.get(name) {
             Some(found) => *found,
             None => Numbered {
                 last: None,
                 next: None,
             },
-        };
-        if !is_next {
-            return found.last.ok_or(LineError::Refused(Refusal::Undefined));
         }
-        if let Some(next) = found.next {
-            return Ok(next);
-        }
+    }
+
+    /// A new symbol for the next label that is this number.
+    fn next_numbered(&mut self, name: &'a [u8], last: Option<u32>) -> Result<u32, LineError> {
         let next = self.add_numbered(name)?;
         let found = Numbered {
-            last: found.last,
+            last,
             next: Some(next),
         };
         self.numbered.insert(name, found)?;
@@ -350,7 +351,7 @@ impl<'a> Reader<'a> {
             [digits @ .., direction] if names_numbered(name) => {
                 self.numbered_symbol(digits, *direction == b'f')
             }
-            _ => self.symbol(name),
+            _ => self.program.symbols.number_if_short(name),
         }
     }
 
@@ -383,7 +384,12 @@ impl<'a> Reader<'a> {
     fn begin_function(&mut self, name: &'a [u8]) -> Result<(), LineError> {
         self.end_function();
         let weak = self.is_weak(name);
-        let symbol = self.symbol(name)?;
+        let symbol = self.program.symbols.number_if_short(name)?;
+        self.add_function(symbol, weak)
+    }
+
+    /// Adds a function without items.
+    fn add_function(&mut self, symbol: u32, weak: bool) -> Result<(), LineError> {
         let number = self.program.functions.len();
         let meaning = Meaning::Function(number_behind(number)?);
         self.define(symbol, meaning, weak)?;
@@ -427,7 +433,7 @@ impl<'a> Reader<'a> {
             Section::Code => self.begin_function(name),
             Section::Data => {
                 let weak = self.is_weak(name);
-                let symbol = self.symbol(name)?;
+                let symbol = self.program.symbols.number_if_short(name)?;
                 self.begin_object(symbol, weak)
             }
             Section::Notes | Section::Calls { .. } => Ok(()),
@@ -436,7 +442,7 @@ impl<'a> Reader<'a> {
 
     /// A label with a name in code that is local to its function.
     fn local_label(&mut self, name: &'a [u8]) -> Result<(), LineError> {
-        let symbol = self.symbol(name)?;
+        let symbol = self.program.symbols.number_if_short(name)?;
         self.place_label(symbol)
     }
 
@@ -471,19 +477,33 @@ impl<'a> Reader<'a> {
         if let Some(refusal) = self.refusal_of(&read) {
             return Err(LineError::Refused(refusal));
         }
-        let symbol = match read.symbol {
-            Some(name) => Some(self.named(name)?),
-            None => None,
-        };
+        let symbol = self.named_by(read.symbol)?;
         self.push_instruction(read.instruction, symbol)?;
         for instruction in &read.behind {
-            match instruction {
-                Instruction::Nop => {}
-                Instruction::Store { .. } => self.push_instruction(*instruction, symbol)?,
-                _ => self.push_instruction(*instruction, None)?,
-            }
+            self.push_behind(*instruction, symbol)?;
         }
         Ok(())
+    }
+
+    /// The symbol that an instruction names, if it names one.
+    fn named_by(&mut self, name: Option<&'a [u8]>) -> Result<Option<u32>, LineError> {
+        match name {
+            Some(name) => Ok(Some(self.named(name)?)),
+            None => Ok(None),
+        }
+    }
+
+    /// Adds one of the instructions after the first one of a statement: where it stores, it names the same symbol.
+    fn push_behind(
+        &mut self,
+        instruction: Instruction,
+        symbol: Option<u32>,
+    ) -> Result<(), LineError> {
+        match instruction {
+            Instruction::Nop => Ok(()),
+            Instruction::Store { .. } => self.push_instruction(instruction, symbol),
+            _ => self.push_instruction(instruction, None),
+        }
     }
 
     /// Adds an instruction to its function.
@@ -528,14 +548,14 @@ impl<'a> Reader<'a> {
     /// One name for another.
     fn alias(&mut self, name: &'a [u8], target: &'a [u8]) -> Result<(), LineError> {
         let weak = self.is_weak(name);
-        let number = self.symbol(name)?;
-        let other = self.symbol(target)?;
+        let number = self.program.symbols.number_if_short(name)?;
+        let other = self.program.symbols.number_if_short(target)?;
         self.define(number, Meaning::Alias(other), weak)
     }
 
     /// `.weak`.
     fn weaken(&mut self, name: &'a [u8]) -> Result<(), LineError> {
-        let number = self.symbol(name)?;
+        let number = self.program.symbols.number_if_short(name)?;
         self.program.symbols.weaken(number);
         Ok(())
     }

@@ -1,11 +1,10 @@
 //! What `main` reaches.
 
-use crate::error::{Fault, ReadError};
-use crate::item::{Function, Item, Object, Reference, number_behind};
-use crate::program::Program;
 use crate::startup::add_lists;
-use crate::symbols::Meaning;
 use cc_lines::{Instruction, LinkFrom, Refusal, Register};
+use cc_program::{
+    Fault, Function, Item, Meaning, Object, Program, ReadError, Reference, number_behind,
+};
 use cc_rules::is_last;
 use std::alloc::{AllocError, Global};
 
@@ -365,6 +364,31 @@ fn is_place_in_place(program: &Program, number: u32, how: Use) -> bool {
     }
 }
 
+/// Why a datum, or the end of the memory, may not be named so, if it may not.
+fn refusal_in_data(how: Use) -> Option<Refusal> {
+    match how {
+        Use::Jump => Some(Refusal::NoPlace),
+        Use::Distance => Some(Refusal::LabelArithmetic),
+        _ => None,
+    }
+}
+
+/// Why the first byte after all data may not be named so, if it may not.
+fn refusal_at_end(how: Use) -> Option<Refusal> {
+    match how {
+        Use::Address(_) | Use::Table => None,
+        _ => Some(Refusal::NoPlace),
+    }
+}
+
+/// Why a symbol that no text defines may not be named, if it may not.
+fn refusal_of_unknown(program: &Program, symbol: u32) -> Option<Refusal> {
+    match program.symbols.at(program.symbols.resolved(symbol)) {
+        Some(symbol) if symbol.weak => None,
+        _ => Some(Refusal::Undefined),
+    }
+}
+
 /// Why a symbol may not be named so, if it may not.
 fn refusal_of(program: &Program, one: Named) -> Option<Refusal> {
     match program.symbols.meaning(one.symbol) {
@@ -373,19 +397,9 @@ fn refusal_of(program: &Program, one: Named) -> Option<Refusal> {
         Meaning::Object(number) if is_place_in_place(program, number, one.how) => Some(
             Refusal::LabelArithmetic,
         ),
-        Meaning::Object(_) | Meaning::Limit => match one.how {
-            Use::Jump => Some(Refusal::NoPlace),
-            Use::Distance => Some(Refusal::LabelArithmetic),
-            _ => None,
-        },
-        Meaning::End => match one.how {
-            Use::Address(_) | Use::Table => None,
-            _ => Some(Refusal::NoPlace),
-        },
-        _ => match program.symbols.at(program.symbols.resolved(one.symbol)) {
-            Some(symbol) if symbol.weak => None,
-            _ => Some(Refusal::Undefined),
-        },
+        Meaning::Object(_) | Meaning::Limit => refusal_in_data(one.how),
+        Meaning::End => refusal_at_end(one.how),
+        _ => refusal_of_unknown(program, one.symbol),
     }
 }
 
