@@ -4,11 +4,9 @@ ghost use Rattle.mx_io.specs.declared.limits.TheConstants.{MAX_SOURCE_BYTES};
 
 use crate::compare::named_failure;
 use cmd_answer::{Failure, FileKind, Reply, Status, read_file};
-use lab_check::{
-    Checked, CheckedModules, Finding, Form, MOST_LINES, MOST_MODULES, check, check_modules,
-    findings_text,
-};
+use lab_check::{Checked, Finding, Form, MOST_LINES, check, findings_text};
 use lab_line::{Asked, file_by};
+use lab_modules::{CheckedModules, MOST_MODULES, check_modules};
 use lab_runs::{or_memory, printed, refused};
 use mx_io::{Memory, Shelf};
 use std::alloc::{AllocError, Global};
