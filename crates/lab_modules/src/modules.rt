@@ -53,10 +53,10 @@ fn refused<'a>(
 ) -> Result<CheckedModules<'a>, AllocError>
     ensures { IfOk result (λ c. 0 < c.faults) }
 {
-    let checked = refused_findings(alloc, modules, refusal, at_most)?;
+    let CheckedModules { groups, faults, .. } = refused_findings(alloc, modules, refusal, at_most)?;
     Ok(CheckedModules {
-        groups: checked.groups,
-        faults: checked.faults.max(1),
+        groups,
+        faults: faults.max(1),
         is_overlong: false,
         warnings: 0,
     })
