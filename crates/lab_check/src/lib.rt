@@ -22,5 +22,6 @@ mod warning;
 pub use checking::{Checked, check};
 pub use finding::{Finding, Severity};
 pub use lab_faults::MOST_LINES;
-pub use modules::{CheckedModules, MOST_MODULES, check_modules};
+pub use module::{Module, modules_of};
+pub use modules::{CheckedModules, Refusal, accepted_findings, numbered_texts, refused_findings};
 pub use report::{Form, findings_text};

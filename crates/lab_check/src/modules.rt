@@ -1,8 +1,5 @@
-//! What is found in the modules of a program.
-ghost use Rattle.std.specs.Prelude.{◌≡◌, ◌≤◌, ◌<◌, true, false, length, is_some, nat_lt, if◌then◌else◌, Some, None, IfOk, IfErr};
-ghost use Rattle.mx_io.specs.declared.limits.TheConstants.{MAX_SOURCE_BYTES};
-ghost use Rattle.mx_lines.specs.Words.{texts};
-ghost use Rattle.mx_module.specs.Joined.{Joins, IsJoinRefusal, join_fault};
+//! What is found in the modules of a program, once it is known whether they are refused.
+ghost use Rattle.std.specs.Prelude.{◌≤◌, length};
 
 use crate::checking::{Checked, overlong_in, told_warnings};
 use crate::closing::closed_text;
@@ -11,20 +8,16 @@ use crate::finding::Finding;
 use crate::follow::causes_of;
 use crate::labels::{Definition, definitions_of};
 use crate::link_error::link_finding;
-use crate::module::{Module, exporter, modules_of};
+use crate::module::{Module, exporter};
 use crate::sentence::token_of;
 use crate::used::used_in;
 use crate::warning::warnings_with;
 use lab_faults::{MOST_LINES, Shown, check_text, line_at};
 use lab_writer::Writer;
-use mx_io::Memory;
 use mx_lines::{Fault, lines_of};
-use mx_module::{JoinError, JoinFault, Joiner};
+use mx_module::JoinFault;
 use mx_source::Source;
 use std::alloc::{AllocError, Global};
-
-/// How many modules a program has.
-pub const MOST_MODULES: usize = 16;
 
 /// What is found in the modules of a program: for each what is shown of it, how many faulty lines there are, whether a branch
 /// does not reach its target, and how many warnings there are.
@@ -36,12 +29,12 @@ pub struct CheckedModules<'a> {
     pub warnings: usize,
 }
 
-// Where modules are refused: the place of a module, a line of it, and its fault.
+/// Where modules are refused: the place of a module, a line of it, and its fault.
 #[derive(Clone, Copy)]
-struct Refusal {
-    place: usize,
-    line: u32,
-    fault: JoinFault,
+pub struct Refusal {
+    pub place: usize,
+    pub line: u32,
+    pub fault: JoinFault,
 }
 
 // What is found in a module, and how many of its lines are faulty.
@@ -49,35 +42,6 @@ struct Refusal {
 struct Found<'a> {
     findings: Vec<Finding<'a>>,
     count: usize,
-}
-
-// Texts to be joined.
-#[tactic(auto, using(lab_faults::proofs::Marks::push_more))]
-fn joiner_of(alloc: Global, modules: &[&[u8]]) -> Result<Joiner, Memory>
-    requires few { length modules.now ≤ 16 }
-    ensures { IfOk result (λ j. j ≡ texts modules.now) }
-{
-    let mut joiner = Joiner::new(alloc);
-    for module in modules {
-        if module.len() > MOST_LINES {
-            return Err(Memory);
-        }
-        joiner.add(module)?;
-    }
-    Ok(joiner)
-}
-
-// The source that texts join as, or why they are not joined.
-fn join_of(alloc: Global, modules: &[&[u8]]) -> Result<Source, JoinError>
-    requires few { length modules.now ≤ 16 }
-    requires some { 1 ≤ length modules.now }
-    ensures source { IfOk result (Joins (texts modules.now)) }
-    ensures refused { IfErr result (IsJoinRefusal (join_fault (texts modules.now))) }
-{
-    match joiner_of(alloc, modules) {
-        Ok(joiner) => joiner.join(alloc),
-        Err(_) => Err(JoinError::Memory),
-    }
 }
 
 // A finding at another line, which is this one.
@@ -323,25 +287,19 @@ fn add_last<'a>(
     Ok(())
 }
 
-// What is found in modules that are refused.
-fn refused<'a>(
+/// What is found in modules that are refused: the faulty lines of each, or, where no line is faulty by itself, the one for which they
+/// are refused, which is not counted.
+pub fn refused_findings<'a>(
     alloc: Global,
     modules: &[Module<'a>],
     refusal: Refusal,
     at_most: usize,
-) -> Result<CheckedModules<'a>, AllocError>
-    ensures { IfOk result (λ c. 0 < c.faults) }
-{
+) -> Result<CheckedModules<'a>, AllocError> {
     let mut checked = found_in_each(alloc, modules, refusal, at_most)?;
     if checked.faults == 0 {
         add_last(alloc, modules, refusal, &mut checked.groups)?;
     }
-    Ok(CheckedModules {
-        groups: checked.groups,
-        faults: checked.faults.max(1),
-        is_overlong: false,
-        warnings: 0,
-    })
+    Ok(checked)
 }
 
 // ---- warnings
@@ -353,8 +311,9 @@ fn lowered(alloc: Global, before: usize, text: &[u8]) -> Result<Vec<u8>, AllocEr
     Ok(lowered)
 }
 
-// The texts of modules, each behind as many empty lines as the modules before it have lines.
-fn lowered_texts(
+/// The texts of modules, each behind as many empty lines as the modules before it have lines, so that joined they are numbered
+/// through all of them.
+pub fn numbered_texts(
     alloc: Global,
     modules: &[Module],
     given: &[&[u8]],
@@ -366,33 +325,6 @@ fn lowered_texts(
         before = before.saturating_add(module.whole.len());
     }
     Ok(lowered_texts)
-}
-
-// Texts as slices.
-fn slices_of(alloc: Global, given: &[Vec<u8>]) -> Result<Vec<&[u8]>, AllocError> {
-    let mut slices = Vec::new(alloc);
-    for text in given {
-        slices.push(text.as_slice())?;
-    }
-    Ok(slices)
-}
-
-// The source of modules whose lines are numbered through all of them; none where there is none.
-fn numbered_source(
-    alloc: Global,
-    modules: &[Module],
-    given: &[&[u8]],
-) -> Result<Option<Source>, AllocError> {
-    let lowered = lowered_texts(alloc, modules, given)?;
-    let slices = slices_of(alloc, &lowered)?;
-    if slices.is_empty() || slices.len() > MOST_MODULES {
-        return Ok(None);
-    }
-    match join_of(alloc, &slices) {
-        Ok(source) => Ok(Some(source)),
-        Err(JoinError::Refused { .. }) => Ok(None),
-        Err(JoinError::Memory) => Err(AllocError),
-    }
 }
 
 // The lines of all modules, one module after the other.
@@ -461,17 +393,15 @@ fn warned<'a>(
     told_warnings(alloc, &lines, overlong, &warned, at_most)
 }
 
-// What is found in modules without faults.
-fn accepted<'a>(
+/// What is found in modules without faults, whose lines are numbered through all of them in this source; nothing where there is none.
+pub fn accepted_findings<'a>(
     alloc: Global,
     modules: &[Module<'a>],
-    given: &[&[u8]],
+    source: Option<&Source>,
     at_most: usize,
-) -> Result<CheckedModules<'a>, AllocError>
-    ensures { IfOk result (λ c. c.faults ≡ 0) }
-{
-    let checked = match numbered_source(alloc, modules, given)? {
-        Some(source) => warned(alloc, modules, &source, at_most)?,
+) -> Result<CheckedModules<'a>, AllocError> {
+    let checked = match source {
+        Some(source) => warned(alloc, modules, source, at_most)?,
         None => Checked::nothing(alloc),
     };
     Ok(CheckedModules {
@@ -480,62 +410,4 @@ fn accepted<'a>(
         is_overlong: checked.is_overlong,
         warnings: checked.warnings,
     })
-}
-
-// What is found in modules, by what comes of joining them.
-fn told_modules<'a>(
-    alloc: Global,
-    given: &[&'a [u8]],
-    refusal: Option<Refusal>,
-    at_most: usize,
-) -> Result<CheckedModules<'a>, AllocError>
-    ensures { IfOk result (λ c. nat_lt 0 c.faults ≡ is_some refusal) }
-{
-    let modules = modules_of(alloc, given)?;
-    match refusal {
-        Some(refusal) => refused(alloc, &modules, refusal, at_most),
-        None => accepted(alloc, &modules, given, at_most),
-    }
-}
-
-// Why modules are refused, if they are.
-fn refusal_of(alloc: Global, modules: &[&[u8]]) -> Result<Option<Refusal>, Memory>
-    requires few { length modules.now ≤ 16 }
-    requires some { 1 ≤ length modules.now }
-    ensures { IfOk result (λ o. is_some o ≡ is_some (join_fault (texts modules.now))) }
-{
-    match join_of(alloc, modules) {
-        Ok(_) => Ok(None),
-        Err(
-            JoinError::Refused {
-                module,
-                line,
-                fault,
-            },
-        ) => Ok(Some(Refusal {
-            place: module.saturating_sub(1) as usize,
-            line,
-            fault,
-        })),
-        Err(JoinError::Memory) => Err(Memory),
-    }
-}
-
-/// What is found in the modules of a program, which is checked as `join` reads it: a name stands for a label of its own module, or
-/// for one that it imports. Faulty lines, up to so many, exactly where `join` refuses the modules; else a branch that does not
-/// reach its target, and warnings, up to so many.
-pub fn check_modules<'a>(
-    alloc: Global,
-    modules: &[&'a [u8]],
-    at_most: usize,
-) -> Result<CheckedModules<'a>, Memory>
-    requires few { length modules.now ≤ 16 }
-    requires some { 1 ≤ length modules.now }
-    ensures refused { IfOk result (λ c. nat_lt 0 c.faults ≡ is_some (join_fault (texts modules.now))) }
-{
-    let refusal = refusal_of(alloc, modules)?;
-    match told_modules(alloc, modules, refusal, at_most) {
-        Ok(checked) => Ok(checked),
-        Err(_) => Err(Memory),
-    }
 }

@@ -3,11 +3,9 @@ ghost use Rattle.std.specs.Prelude.{◌≤◌, length};
 ghost use Rattle.mx_io.specs.declared.limits.TheConstants.{MAX_SOURCE_BYTES};
 
 use cmd_answer::{Reply, Status};
-use lab_check::{
-    Checked, CheckedModules, Finding, Form, MOST_LINES, MOST_MODULES, check, check_modules,
-    findings_text,
-};
+use lab_check::{Checked, Finding, Form, MOST_LINES, check, findings_text};
 use lab_failure::{LabFailure, LabFile, read_lab_file};
+use lab_modules::{CheckedModules, MOST_MODULES, check_modules};
 use lab_options::{ArgumentFault, CheckForm, CheckOptions};
 use lab_runs::{or_memory, printed};
 use mx_io::{Memory, Shelf};

@@ -1,6 +1,6 @@
 use Rattle.std.proofs.Common.{◌≡◌, ◌++◌, length, drop}
 use Rattle.mx_lines.specs.Words.{texts}
-use Rattle.lab_check.proofs.modules.joiner_of.Given as goal
+use Rattle.lab_modules.proofs.modules.joiner_of.Given as goal
 
 -- the texts so far and those that are left are all of them, and how many they are
 abbrev pub invariant-loop-module : goal.invariant-loop-module
