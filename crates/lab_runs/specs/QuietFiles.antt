@@ -1,5 +1,4 @@
 -- What contracts see of the files of a session in memory, of which no read or write fails.
-use Rattle.std.specs.Prelude.{ℕ, List, Option}
 use Rattle.mx_io.specs.Shelves.{Told, Counts}
 use Rattle.mx_io.specs.MemoryShelf as memory
 use Rattle.lab_runs.specs.declared.quiet_files.QuietFiles.{QuietFiles}
