@@ -6,8 +6,8 @@ use crate::own::{NamedFile, OwnFigures, OwnPlans, columns_of, measure_own, named
 use cmd_answer::{Reply, Status};
 use cmd_source::Program;
 use lab_failure::LabFailure;
-use lab_options::{CompareOptions, Form};
 use lab_measures::{Comparison, Conditions, compare};
+use lab_options::{CompareOptions, Form};
 use lab_runs::{or_memory, printed};
 use lab_sources::{Stimulus, read_program, read_stimulus, unlinked};
 use lab_tables::{

@@ -3,8 +3,8 @@ ghost use Rattle.std.specs.Prelude.{◌≤◌, length};
 ghost use Rattle.mx_io.specs.declared.limits.TheConstants.{MAX_FILE_BYTES};
 
 use lab_failure::LabFailure;
-use lab_options::ArgumentFault;
 use lab_measures::Conditions;
+use lab_options::ArgumentFault;
 use lab_plans::{PlannedFigures, figures_by_plans};
 use lab_sources::{plans_of, unlinked};
 use lab_tables::Column;
