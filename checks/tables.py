@@ -3,7 +3,7 @@
 
 usage: checks/tables.py
 
-The proved tables are `ROWS` and the readers of crates/cmd_table, and `COMMANDS` of crates/lab_line. The other places are tools/commands.py
+The proved tables are `ROWS` and the readers of crates/cmd_table, and those of crates/lab_line/src/table.rt. The other places are tools/commands.py
 (help, manual pages and completions), ./mx, what a request of the workbench may hold (crates/lab_request, tools/serve/programs.py, the
 page), and the tables of options in the documents.
 """
@@ -19,9 +19,6 @@ import commands  # noqa: E402
 PAGES = {"draw": "PICTURES", "profile": "MEASUREMENTS", "caches": "MEASUREMENTS", "interrupts": "MEASUREMENTS", "check": "DIAGNOSTICS"}
 # The readers of crates/cmd_table that two commands share, and the numbers that are names of a command, not options.
 SHARED = {"limits_of": ("run", "exec"), "read_seeded": ("gen", "soak"), "session_limits_of": ("debug",)}
-# A command's names as help writes them, by what crates/lab_line calls them.
-NAMES = {"Source": "SOURCE", "Sources": "SOURCE ..", "File": "FILE", "Plans": "SOURCE FILE",
-         "Certified": "SOURCE IMAGE CERTIFICATE", "Image": "SOURCE IMAGE", "Label": "SOURCE LABEL"}
 # The commands of mx_run that mx_lab answers where they have this option.
 PLANNED, PLANS = ("build", "debug"), "plans"
 
@@ -68,38 +65,33 @@ def laboratory():
     """Returns of each command of mx_lab the names it takes, what it does, and its options: a range with its default, or words with theirs."""
     text = text_of("crates/lab_line/src/table.rt")
     known = constants(text)
-    takes, rows, lists = {}, {}, {}
+    texts = dict(re.findall(r'const (\w+): &str = "([^"]*)";', text))
+    texts_of = {name: re.findall(r'"(\w+)"', said) for name, said in re.findall(r"static (\w+): \[&str; \d+\] = \[(.*?)\];", text, re.S)}
+    choices = {name: texts_of[of] for name, of in re.findall(r"Choice::(\w+) => &(\w+),", text)}
+    # the rows are in the order of the names
+    names = re.findall(r"(\w+),", re.search(r"enum ArgumentName \{(.*?)\n\}", text, re.S)[1])
+    rows = re.findall(r"ArgumentRow \{\s+name: ([^,]+),\s+takes: (.*?),\s+default: ([^,]+),\s+help: \"", text, re.S)
+    arguments = {name: (texts.get(row[0], row[0].strip('"')), *row[1:]) for name, row in zip(names, rows, strict=True)}
 
-    def meaning(said):
-        said = said.strip()
-        if said in takes:
-            return takes[said]
-        if said.startswith("Takes::Number"):
-            value = {name: it for name, it in re.findall(r"(default|least|most): ([^,\n]+)", said)}
-            default = re.search(r'"(\d+)"', value["default"])
-            return (int(default[1]) if default else None, *(known.get(value[it]) if value[it] in known else number(value[it]) for it in ("least", "most")))
-        if said.startswith("Takes::Word"):
-            words = re.search(r"words: &\[(.*?)\]", said, re.S)[1]
-            return re.findall(r'"(\w+)"', words), re.search(r'default: "(\w+)"', said)[1]
+    def meaning(takes, said):
+        default = re.search(r'"(\w+)"', said)
+        if takes.startswith("Takes::Number"):
+            ends = dict(re.findall(r"(least|most): ([^,\n]+)", takes))
+            return (number(default[1]) if default else None, *(known.get(ends[it]) or number(ends[it]) for it in ("least", "most")))
+        if takes.startswith("Takes::Word"):
+            return choices[re.search(r"choice: Choice::(\w+)", takes)[1]], default[1]
         return None
 
-    for name, said in re.findall(r"const (\w+): Takes = (Takes::\w+ \{.*?\n\});", text, re.S):
-        takes[name] = meaning(said)
-    row = re.compile(r'name: "(\w+)",\s+takes: (\w+(?:::\w+)?(?: \{.*?\n\s+\})?),\s+help:', re.S)
-    for name, said in re.findall(r"const (\w+): OptionRow = OptionRow \{(.*?)\n\};", text, re.S):
-        rows[name] = next(iter((option, meaning(it)) for option, it in row.findall(said)))
-    for name, said in re.findall(r"const (\w+): \[OptionRow; \d+\] = \[(.*?)\];\n", text, re.S):
-        lists[name] = {}
-        for option, it, other in re.findall(r'OptionRow \{\s+(name: "\w+".*?help: "[^"]*"),\s+\}|\b([A-Z_]{2,})\b,?()', said, re.S):
-            key, value = rows[it] if it else next(iter((one, meaning(what)) for one, what in row.findall(f"{option},{other}")))
-            lists[name][key] = value
+    lists = {name: re.findall(r"ArgumentName::(\w+)", said) for name, said in re.findall(r"static (\w+): \[ArgumentName; \d+\] = \[(.*?)\];", text, re.S)}
+    order = re.findall(r"(\w+),", re.search(r"enum CommandName \{(.*?)\n\}", text, re.S)[1])
+    about = dict(zip(order, re.findall(r'"([^"]*)"', re.search(r"static ABOUT: .*?\n\];", text, re.S)[0]), strict=True))
+    of = dict(re.findall(r"CommandName::(\w+) => &(\w+),", text))
     found = {}
-    table = text[text.index("static COMMANDS"):]
-    for name, about, names, options in re.findall(
-            r'CommandRow \{\s+name: "(\w+)",\s+command: [^\n]+\s+about: "([^"]*)",\s+names: Names::(\w+),\s+options: &(\w+),', table):
-        # a flag takes the place of the plan file
-        flags = {"print": None} if names == "Plans" else {}
-        found[name] = (NAMES[names], about, {**lists[options], **flags})
+    for word, command in re.findall(r'WordRow \{\s+word: "(\w+)",\s+means: CommandName::(\w+),', text):
+        every = [arguments[it] for it in lists[of[command]]]
+        named = [name + (" .." if takes == "Takes::Positionals" else "") for name, takes, _ in every if "Positional" in takes]
+        options = {name: meaning(takes, said) for name, takes, said in every if "Positional" not in takes and name != "output"}
+        found[word] = (" ".join(named), about[command], options)
     return found
 
 

@@ -1,5 +1,5 @@
 //! The values of options and arguments.
-use crate::table::{OptionRow, Takes};
+use crate::table::ArgumentName;
 use clap::ArgMatches;
 use clap::parser::ValueSource;
 use lab_options::{Form, Part, Scheduler, Sort, WordRow, meant_by};
@@ -108,71 +108,75 @@ static SORTS: [WordRow<Sort>; 8] = [
     },
 ];
 
-/// The argument of this name; empty where there is none, which is the name of no file.
-pub(crate) fn argument<'w>(matches: &ArgMatches<'w>, name: &str) -> &'w str {
-    matches.get_str(name).unwrap_or("")
-}
-
-/// The word of an option; empty where it has none.
-pub(crate) fn word_of<'w>(matches: &ArgMatches<'w>, row: &OptionRow) -> &'w str {
-    argument(matches, row.name)
+/// The word of an argument; empty where it has none, which is the name of no file.
+pub(crate) fn word_of<'w>(matches: &ArgMatches<'w>, argument: ArgumentName) -> &'w str {
+    matches.get_str(argument.name()).unwrap_or("")
 }
 
 /// The file of an option, if it is given.
-pub(crate) fn file_of<'w>(matches: &ArgMatches<'w>, row: &OptionRow) -> Option<&'w str> {
-    matches.get_str(row.name)
+pub(crate) fn file_of<'w>(matches: &ArgMatches<'w>, option: ArgumentName) -> Option<&'w str> {
+    matches.get_str(option.name())
+}
+
+/// The words of an argument that may have several; none where it is not given.
+pub(crate) fn words_of<'m, 'w>(
+    matches: &'m ArgMatches<'w>,
+    argument: ArgumentName,
+) -> Option<&'m [&'w str]> {
+    matches.get_strs(argument.name())
 }
 
 /// Whether an option without a value is given.
-pub(crate) fn flag_of(matches: &ArgMatches, row: &OptionRow) -> bool {
-    matches.get_flag(row.name)
+pub(crate) fn flag_of(matches: &ArgMatches, option: ArgumentName) -> bool {
+    matches.get_flag(option.name())
 }
 
 /// Whether an option is among the arguments, and has not its default alone.
-pub(crate) fn is_given(matches: &ArgMatches, row: &OptionRow) -> bool {
+pub(crate) fn is_given(matches: &ArgMatches, option: ArgumentName) -> bool {
     matches!(
-        matches.value_source(row.name),
+        matches.value_source(option.name()),
         Some(ValueSource::CommandLine)
     )
 }
 
 /// The number of an option, if it has one.
-pub(crate) fn number_if_any(matches: &ArgMatches, row: &OptionRow) -> Option<u32> {
-    matches.get_one::<u32>(row.name)
+pub(crate) fn number_if_any(matches: &ArgMatches, option: ArgumentName) -> Option<u32> {
+    matches.get_one::<u32>(option.name())
 }
 
 /// The number of an option that has a default.
-pub(crate) fn number_of(matches: &ArgMatches, row: &OptionRow) -> u32 {
-    number_if_any(matches, row).unwrap_or(default_of(row))
+pub(crate) fn number_of(matches: &ArgMatches, option: ArgumentName) -> u32 {
+    number_if_any(matches, option).unwrap_or(default_of(option))
 }
 
 // The default of an option; 0 where it has none.
-fn default_of(row: &OptionRow) -> u32 {
-    match row.takes {
-        Takes::Number {
-            default: Some(text),
-            ..
-        } => text.parse::<u32>().unwrap_or(0),
-        _ => 0,
+fn default_of(option: ArgumentName) -> u32 {
+    match option.row().default {
+        Some(text) => text.parse::<u32>().unwrap_or(0),
+        None => 0,
     }
 }
 
 /// The form of what is printed.
-pub(crate) fn form_of(matches: &ArgMatches, row: &OptionRow) -> Form {
-    meant_by(&FORMS, word_of(matches, row), Form::Text)
+pub(crate) fn form_of(matches: &ArgMatches, option: ArgumentName) -> Form {
+    meant_by(&FORMS, word_of(matches, option), Form::Text)
 }
 
-/// The scheduler that an option names.
-pub(crate) fn scheduler_of(matches: &ArgMatches, row: &OptionRow) -> Scheduler {
-    meant_by(&SCHEDULERS, word_of(matches, row), Scheduler::Copies)
+/// The scheduler that is named.
+pub(crate) fn scheduler_of(matches: &ArgMatches) -> Scheduler {
+    meant_by(
+        &SCHEDULERS,
+        word_of(matches, ArgumentName::Scheduler),
+        Scheduler::Copies,
+    )
 }
 
-/// The parts that an option names.
-pub(crate) fn part_of(matches: &ArgMatches, row: &OptionRow) -> Part {
-    meant_by(&PARTS, word_of(matches, row), Part::Line)
+/// The parts of a profile that are named.
+pub(crate) fn part_of(matches: &ArgMatches) -> Part {
+    meant_by(&PARTS, word_of(matches, ArgumentName::By), Part::Line)
 }
 
-/// The column that an option names.
-pub(crate) fn sort_of(matches: &ArgMatches, row: &OptionRow) -> Sort {
-    meant_by(&SORTS, word_of(matches, row), Sort::Line)
+/// The column of a profile that is named.
+pub(crate) fn sort_of(matches: &ArgMatches) -> Sort {
+    meant_by(&SORTS, word_of(matches, ArgumentName::Sort), Sort::Line)
 }

@@ -3,151 +3,124 @@ ghost use Rattle.std.specs.Prelude.{◌≡◌, IfOk, IfSome};
 ghost use Rattle.lab_options.specs.Planned.{IsInPlaceOf, RunsAsLinked};
 
 use crate::given::{
-    argument, file_of, flag_of, form_of, is_given, number_if_any, number_of, part_of, scheduler_of,
-    sort_of, word_of,
+    file_of, flag_of, form_of, is_given, number_if_any, number_of, part_of, scheduler_of, sort_of,
+    word_of, words_of,
 };
-use crate::table::{
-    ALL, BLOCKS_FORM, BRINGS, BUDGET, BY, CACHES_FORM, CERTIFICATE_NAME, CHECK_FORM, COLOUR,
-    COMPARE_FORM, CYCLES, CommandName, DISASSEMBLE_FORM, DRAW_FORM, EXPLAIN_FORM, FILE_NAME,
-    FIRST_DRAWN, FROM, IMAGE_NAME, INPUT, INTERRUPTS, LABEL_NAME, LINE, LINKED_PLANS, NAMED_PLANS,
-    OUTPUT, OptionRow, PAIRS, PENALTY, PLAN_FILE, PRINT, PROFILE_FORM, ROWS, SCHEDULER,
-    SESSION_BUDGET, SORT, SOURCE_NAME, STEP, STOPS, SWEEP_FORM, TO, TRACE_FORM, WATCH,
-    command_named,
-};
+use crate::table::{ArgumentName, CommandName, command_named};
 use clap::ArgMatches;
 use lab_options::{
-    ArgumentFault,
-    BuildOptions, CachesOptions, CheckForm, CheckOptions, CompareOptions, DebugOptions,
-    DisassembleOptions, DrawOptions, LabCommand, PlansOf, PlansOptions, ProfileOptions, RunOptions,
-    Scheduler, StimulusNames, SweepOptions, VerifyOptions,
+    ArgumentFault, BuildOptions, CachesOptions, CheckForm, CheckOptions, CompareOptions,
+    DebugOptions, DisassembleOptions, DrawOptions, LabCommand, PlansOf, PlansOptions,
+    ProfileOptions, RunOptions, Scheduler, StimulusNames, SweepOptions, VerifyOptions,
 };
 
 // The name of the source.
 fn source_of<'w>(matches: &ArgMatches<'w>) -> &'w str {
-    argument(matches, SOURCE_NAME)
+    word_of(matches, ArgumentName::Source)
+}
+
+// The most cycles.
+fn budget_of(matches: &ArgMatches) -> u32 {
+    number_of(matches, ArgumentName::Budget)
 }
 
 // The files that come to a run from outside.
 fn stimulus_of<'w>(matches: &ArgMatches<'w>) -> StimulusNames<'w> {
     StimulusNames {
-        interrupts: file_of(matches, &INTERRUPTS),
-        input: file_of(matches, &INPUT),
-    }
-}
-
-// The run of a source by these plans.
-fn run_by<'w>(matches: &ArgMatches<'w>, plans: PlansOf<'w>, form: &OptionRow) -> RunOptions<'w>
-    ensures { result.plans ≡ plans.entry }
-{
-    RunOptions {
-        source: source_of(matches),
-        plans,
-        stimulus: stimulus_of(matches),
-        budget: number_of(matches, &BUDGET),
-        form: form_of(matches, form),
+        interrupts: file_of(matches, ArgumentName::Interrupts),
+        input: file_of(matches, ArgumentName::Input),
     }
 }
 
 // The run of a source as `run` links it.
-fn run_copied<'w>(matches: &ArgMatches<'w>, form: &OptionRow) -> RunOptions<'w>
+fn run_copied<'w>(matches: &ArgMatches<'w>, form: ArgumentName) -> RunOptions<'w>
     ensures { result.plans ≡ PlansOf.Scheduler Scheduler.Copies }
 {
-    run_by(matches, PlansOf::Scheduler(Scheduler::Copies), form)
+    RunOptions::copied(
+        source_of(matches),
+        stimulus_of(matches),
+        budget_of(matches),
+        form_of(matches, form),
+    )
 }
 
-// The plans of a file, or of a scheduler where no file is given.
-fn plans_or<'w>(matches: &ArgMatches<'w>, scheduler: Scheduler) -> PlansOf<'w>
-    ensures { IsInPlaceOf scheduler result }
-{
-    match file_of(matches, &PLAN_FILE) {
-        Some(name) => PlansOf::File(name),
-        None => PlansOf::Scheduler(scheduler),
-    }
-}
-
-// The run of a source by the plans of a file, or as `run` links it.
-fn run_planned<'w>(matches: &ArgMatches<'w>, form: &OptionRow) -> RunOptions<'w>
-    ensures { IsInPlaceOf Scheduler.Copies result.plans }
-{
-    run_by(matches, plans_or(matches, Scheduler::Copies), form)
-}
-
-// The run of a source by the plans of a file or of a scheduler, which exclude each other.
-fn run_chosen<'w>(
+// The run of a source by the plans of a file, or of a scheduler where no file is given.
+fn run_planned<'w>(
     matches: &ArgMatches<'w>,
-    form: &OptionRow,
-) -> Result<RunOptions<'w>, ArgumentFault<'w>> {
-    if is_given(matches, &SCHEDULER) && is_given(matches, &PLAN_FILE) {
-        return Err(ArgumentFault::SchedulerAndPlans);
-    }
-    let plans = plans_or(matches, scheduler_of(matches, &SCHEDULER));
-    Ok(run_by(matches, plans, form))
-}
-
-fn draw_options<'w>(matches: &ArgMatches<'w>) -> Result<DrawOptions<'w>, ArgumentFault<'w>> {
-    let run = run_chosen(matches, &DRAW_FORM)?;
-    Ok(DrawOptions {
-        run,
-        from: number_of(matches, &FIRST_DRAWN),
-        cycles: number_of(matches, &CYCLES),
-    })
-}
-
-fn profile_options<'w>(matches: &ArgMatches<'w>) -> Result<ProfileOptions<'w>, ArgumentFault<'w>> {
-    let run = run_chosen(matches, &PROFILE_FORM)?;
-    Ok(ProfileOptions {
-        run,
-        by: part_of(matches, &BY),
-        sort: sort_of(matches, &SORT),
-    })
-}
-
-fn caches_options<'w>(matches: &ArgMatches<'w>) -> Result<CachesOptions<'w>, ArgumentFault<'w>>
-    ensures { IfOk result (λ options. IsInPlaceOf Scheduler.Copies options.run.plans) }
+    scheduler: Scheduler,
+    form: ArgumentName,
+) -> RunOptions<'w>
+    ensures { IsInPlaceOf scheduler result.plans }
 {
-    let options = CachesOptions {
-        run: run_planned(matches, &CACHES_FORM),
-        line: number_of(matches, &LINE),
-        brings: number_of(matches, &BRINGS),
-        penalty: number_of(matches, &PENALTY),
-    };
-    if options.brings > options.line {
-        return Err(ArgumentFault::MoreThanLine);
+    RunOptions {
+        source: source_of(matches),
+        plans: PlansOf::file_or(file_of(matches, ArgumentName::PlanFile), scheduler),
+        stimulus: stimulus_of(matches),
+        budget: budget_of(matches),
+        form: form_of(matches, form),
     }
-    Ok(options)
+}
+
+// The run of a source by the plans of a file or of a scheduler.
+fn run_chosen<'w>(matches: &ArgMatches<'w>, form: ArgumentName) -> RunOptions<'w> {
+    run_planned(matches, scheduler_of(matches), form)
+}
+
+fn draw_options<'w>(matches: &ArgMatches<'w>) -> DrawOptions<'w> {
+    DrawOptions {
+        run: run_chosen(matches, ArgumentName::DrawForm),
+        from: number_of(matches, ArgumentName::FirstDrawn),
+        cycles: number_of(matches, ArgumentName::Cycles),
+    }
+}
+
+fn profile_options<'w>(matches: &ArgMatches<'w>) -> ProfileOptions<'w> {
+    ProfileOptions {
+        run: run_chosen(matches, ArgumentName::ProfileForm),
+        by: part_of(matches),
+        sort: sort_of(matches),
+    }
+}
+
+fn caches_options<'w>(matches: &ArgMatches<'w>) -> CachesOptions<'w>
+    ensures { IsInPlaceOf Scheduler.Copies result.run.plans }
+{
+    CachesOptions {
+        run: run_planned(matches, Scheduler::Copies, ArgumentName::CachesForm),
+        line: number_of(matches, ArgumentName::Line),
+        brings: number_of(matches, ArgumentName::Brings),
+        penalty: number_of(matches, ArgumentName::Penalty),
+    }
 }
 
 fn sweep_options<'w>(matches: &ArgMatches<'w>) -> SweepOptions<'w>
     ensures { IsInPlaceOf Scheduler.Copies result.run.plans }
 {
     SweepOptions {
-        run: run_planned(matches, &SWEEP_FORM),
-        from: number_of(matches, &FROM),
-        to: number_if_any(matches, &TO),
-        step: number_of(matches, &STEP),
-        is_pairs: flag_of(matches, &PAIRS),
-        has_rows: flag_of(matches, &ROWS),
+        run: run_planned(matches, Scheduler::Copies, ArgumentName::SweepForm),
+        from: number_of(matches, ArgumentName::From),
+        to: number_if_any(matches, ArgumentName::To),
+        step: number_of(matches, ArgumentName::Step),
+        is_pairs: flag_of(matches, ArgumentName::Pairs),
+        has_rows: flag_of(matches, ArgumentName::Rows),
     }
 }
 
 fn compare_options<'m, 'w>(matches: &'m ArgMatches<'w>) -> CompareOptions<'m, 'w> {
-    let sources = matches.get_strs(SOURCE_NAME);
-    let columns = matches.get_strs(NAMED_PLANS.name);
-    let stimulus = stimulus_of(matches);
     CompareOptions {
-        sources,
-        columns,
-        stimulus,
-        budget: number_of(matches, &BUDGET),
-        form: form_of(matches, &COMPARE_FORM),
+        sources: words_of(matches, ArgumentName::Sources),
+        columns: words_of(matches, ArgumentName::NamedPlans),
+        stimulus: stimulus_of(matches),
+        budget: budget_of(matches),
+        form: form_of(matches, ArgumentName::CompareForm),
     }
 }
 
 // The form of what `check` finds.
 fn check_form(matches: &ArgMatches) -> CheckForm {
-    if word_of(matches, &CHECK_FORM) == "json" {
+    if word_of(matches, ArgumentName::CheckForm) == "json" {
         CheckForm::Json
-    } else if word_of(matches, &COLOUR) == "always" {
+    } else if word_of(matches, ArgumentName::Colour) == "always" {
         CheckForm::Coloured
     } else {
         CheckForm::Text
@@ -155,93 +128,108 @@ fn check_form(matches: &ArgMatches) -> CheckForm {
 }
 
 fn check_options<'m, 'w>(matches: &'m ArgMatches<'w>) -> CheckOptions<'m, 'w> {
-    let sources = matches.get_strs(SOURCE_NAME);
     CheckOptions {
-        sources,
-        is_all: flag_of(matches, &ALL),
+        sources: words_of(matches, ArgumentName::Sources),
+        is_all: flag_of(matches, ArgumentName::All),
         form: check_form(matches),
     }
 }
 
 fn disassemble_options<'w>(matches: &ArgMatches<'w>) -> DisassembleOptions<'w> {
     DisassembleOptions {
-        file: argument(matches, FILE_NAME),
-        form: form_of(matches, &DISASSEMBLE_FORM),
+        file: word_of(matches, ArgumentName::File),
+        form: form_of(matches, ArgumentName::DisassembleForm),
     }
 }
 
 // The plan file that `plans` runs, unless it prints one.
 fn plans_run<'w>(matches: &ArgMatches<'w>) -> Option<&'w str> {
-    if flag_of(matches, &PRINT) {
+    if flag_of(matches, ArgumentName::Print) {
         None
     } else {
-        Some(argument(matches, FILE_NAME))
+        Some(word_of(matches, ArgumentName::PlansFile))
     }
 }
 
 fn plans_options<'w>(matches: &ArgMatches<'w>) -> PlansOptions<'w> {
-    let plans = plans_run(matches);
-    let stimulus = stimulus_of(matches);
     PlansOptions {
         source: source_of(matches),
-        plans,
-        stimulus,
-        budget: number_of(matches, &BUDGET),
+        plans: plans_run(matches),
+        stimulus: stimulus_of(matches),
+        budget: budget_of(matches),
     }
 }
 
 fn build_options<'w>(matches: &ArgMatches<'w>) -> BuildOptions<'w> {
     BuildOptions {
         source: source_of(matches),
-        image: argument(matches, IMAGE_NAME),
-        plans: word_of(matches, &LINKED_PLANS),
+        image: word_of(matches, ArgumentName::WrittenImage),
+        plans: word_of(matches, ArgumentName::LinkedPlans),
     }
 }
 
 fn debug_options<'w>(matches: &ArgMatches<'w>) -> DebugOptions<'w> {
     DebugOptions {
         source: source_of(matches),
-        label: argument(matches, LABEL_NAME),
-        plans: word_of(matches, &LINKED_PLANS),
+        label: word_of(matches, ArgumentName::Label),
+        plans: word_of(matches, ArgumentName::LinkedPlans),
         stimulus: stimulus_of(matches),
-        stops: number_of(matches, &STOPS),
-        watch: number_of(matches, &WATCH),
-        budget: number_of(matches, &SESSION_BUDGET),
+        stops: number_of(matches, ArgumentName::Stops),
+        watch: number_of(matches, ArgumentName::Watch),
+        budget: number_of(matches, ArgumentName::SessionBudget),
     }
 }
 
 fn verify_options<'w>(matches: &ArgMatches<'w>) -> VerifyOptions<'w> {
     VerifyOptions {
         source: source_of(matches),
-        image: argument(matches, IMAGE_NAME),
-        certificate: argument(matches, CERTIFICATE_NAME),
+        image: word_of(matches, ArgumentName::Image),
+        certificate: word_of(matches, ArgumentName::Certificate),
     }
 }
 
-// The command of this name with what its arguments say, or why it cannot use them.
-fn command_of<'m, 'w>(
-    name: CommandName,
-    matches: &'m ArgMatches<'w>,
-) -> Result<LabCommand<'m, 'w>, ArgumentFault<'w>>
-    ensures { IfOk result RunsAsLinked }
+// The command of this name with what its arguments say.
+fn command_of<'m, 'w>(name: CommandName, matches: &'m ArgMatches<'w>) -> LabCommand<'m, 'w>
+    ensures { RunsAsLinked result }
 {
-    Ok(match name {
-        CommandName::Blocks => LabCommand::Blocks(run_copied(matches, &BLOCKS_FORM)),
+    match name {
+        CommandName::Blocks => LabCommand::Blocks(run_copied(matches, ArgumentName::BlocksForm)),
         CommandName::Build => LabCommand::Build(build_options(matches)),
-        CommandName::Caches => LabCommand::Caches(caches_options(matches)?),
+        CommandName::Caches => LabCommand::Caches(caches_options(matches)),
         CommandName::Certify => LabCommand::Certify(source_of(matches)),
         CommandName::Check => LabCommand::Check(check_options(matches)),
         CommandName::Compare => LabCommand::Compare(compare_options(matches)),
         CommandName::Debug => LabCommand::Debug(debug_options(matches)),
         CommandName::Disassemble => LabCommand::Disassemble(disassemble_options(matches)),
-        CommandName::Draw => LabCommand::Draw(draw_options(matches)?),
-        CommandName::Explain => LabCommand::Explain(run_copied(matches, &EXPLAIN_FORM)),
+        CommandName::Draw => LabCommand::Draw(draw_options(matches)),
+        CommandName::Explain => LabCommand::Explain(run_copied(matches, ArgumentName::ExplainForm)),
         CommandName::Interrupts => LabCommand::Interrupts(sweep_options(matches)),
         CommandName::Plans => LabCommand::Plans(plans_options(matches)),
-        CommandName::Profile => LabCommand::Profile(profile_options(matches)?),
-        CommandName::Trace => LabCommand::Trace(run_chosen(matches, &TRACE_FORM)?),
+        CommandName::Profile => LabCommand::Profile(profile_options(matches)),
+        CommandName::Trace => LabCommand::Trace(run_chosen(matches, ArgumentName::TraceForm)),
         CommandName::Verify => LabCommand::Verify(verify_options(matches)),
-    })
+    }
+}
+
+// A scheduler and a plan file are given.
+fn has_both(matches: &ArgMatches) -> bool {
+    is_given(matches, ArgumentName::Scheduler) && is_given(matches, ArgumentName::PlanFile)
+}
+
+// A miss brings more words than a line has.
+fn brings_more(matches: &ArgMatches) -> bool {
+    number_of(matches, ArgumentName::Brings) > number_of(matches, ArgumentName::Line)
+}
+
+// Why a command cannot use its arguments, if that is so.
+fn fault_of<'w>(name: CommandName, matches: &ArgMatches) -> Option<ArgumentFault<'w>> {
+    match name {
+        CommandName::Draw | CommandName::Profile | CommandName::Trace if has_both(matches) => {
+            Some(ArgumentFault::SchedulerAndPlans)
+        }
+        CommandName::Caches if brings_more(matches) => Some(ArgumentFault::MoreThanLine),
+        _ => None,
+    }
 }
 
 /// A command, and the file that its output goes to, where one is named.
@@ -252,15 +240,13 @@ pub struct CommandLine<'m, 'w> {
 }
 
 // A command of this name with its matches.
-fn line_of<'m, 'w>(
-    name: CommandName,
-    matches: &'m ArgMatches<'w>,
-) -> Result<CommandLine<'m, 'w>, ArgumentFault<'w>>
-    ensures { IfOk result (λ line. RunsAsLinked line.command) }
+fn line_of<'m, 'w>(name: CommandName, matches: &'m ArgMatches<'w>) -> CommandLine<'m, 'w>
+    ensures { RunsAsLinked result.command }
 {
-    let command = command_of(name, matches)?;
-    let output = file_of(matches, &OUTPUT);
-    Ok(CommandLine { command, output })
+    CommandLine {
+        command: command_of(name, matches),
+        output: file_of(matches, ArgumentName::Output),
+    }
 }
 
 /// The command that the arguments ask for, or why it cannot use them; none where they name no command.
@@ -271,6 +257,8 @@ pub fn command_line<'m, 'w>(
 {
     let (word, found) = matches.subcommand()?;
     let name = command_named(word)?;
-    let line = line_of(name, found);
-    Some(line)
+    Some(match fault_of(name, found) {
+        Some(fault) => Err(fault),
+        None => Ok(line_of(name, found)),
+    })
 }

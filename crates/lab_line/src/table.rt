@@ -1,6 +1,5 @@
-//! The table of commands: their names, what stands behind them, and their options.
-ghost use Rattle.std.specs.Prelude.{◌≡◌, find, option_map};
-ghost use Rattle.std.specs.Str.{bytes_eq};
+//! The table of commands: their names, and their arguments.
+use lab_options::{WordRow, meaning_in};
 
 /// The most cycles of a run.
 const MOST_BUDGET: i64 = 100_000_000;
@@ -20,6 +19,11 @@ const MOST_STOPS: i64 = 1000;
 const FIRST_DATA: i64 = 256;
 
 const LAST_DATA: i64 = 65_535;
+
+/// The name of the plan file of `plans`, and of the option that asks for one.
+pub(crate) const FILE_NAME: &str = "FILE";
+
+pub(crate) const PRINT_NAME: &str = "print";
 
 /// The name of a command.
 #[derive(Clone, Copy)]
@@ -41,576 +45,784 @@ pub(crate) enum CommandName {
     Verify,
 }
 
-/// The names of arguments.
-pub(crate) const SOURCE_NAME: &str = "SOURCE";
-
-pub(crate) const FILE_NAME: &str = "FILE";
-
-pub(crate) const IMAGE_NAME: &str = "IMAGE";
-
-pub(crate) const CERTIFICATE_NAME: &str = "CERTIFICATE";
-
-pub(crate) const LABEL_NAME: &str = "LABEL";
-
-/// The name of the option that asks for a plan file.
-pub(crate) const PRINT_NAME: &str = "print";
-
-/// What stands behind the name of a command.
-#[derive(Clone, Copy)]
-pub(crate) enum Names {
-    /// A source.
-    Source,
-    /// One source or more.
-    Sources,
-    /// A source or an image file.
-    File,
-    /// A source and a plan file, or the flag that asks for one.
-    Plans,
-    /// A source, an image file and a certificate.
-    Certified,
-    /// A source and the image file that is written.
-    Image,
-    /// A source and a label.
-    Label,
-}
-
-/// What stands behind the name of an option.
+/// What an argument is: positional, or an option and what follows its name.
 #[derive(Clone, Copy)]
 pub(crate) enum Takes {
+    /// It is positional, and one file or label.
+    Positional {
+        is_required: bool,
+    },
+    /// It is positional, and one file or more.
+    Positionals,
     Nothing,
     File,
     /// A file. The option has to be there.
     NeededFile,
     /// A name and a file. It may come several times.
     NamedFile,
-    /// A number, and the one that is taken where it is left out, if there is one.
+    /// A number of a range.
     Number {
-        default: Option<&'static str>,
         least: i64,
         most: i64,
     },
-    /// One of some words, what it is called in help, and the word that is taken where it is left out.
+    /// One of some words, and what it is called in help.
     Word {
         called: &'static str,
-        words: &'static [&'static str],
-        default: &'static str,
+        choice: Choice,
     },
 }
 
-/// An option, without its two hyphens.
+impl Takes {
+    /// It is no option.
+    pub fn is_positional(self) -> bool {
+        matches!(self, Takes::Positional { .. } | Takes::Positionals)
+    }
+}
+
+/// The words that an option takes.
 #[derive(Clone, Copy)]
-pub(crate) struct OptionRow {
+pub(crate) enum Choice {
+    TextOrJson,
+    TextJsonOrCsv,
+    DrawForm,
+    ProfileForm,
+    BlocksForm,
+    CachesForm,
+    TraceForm,
+    Scheduler,
+    Colour,
+    Part,
+    Sort,
+}
+
+static TEXT_OR_JSON: [&str; 2] = ["text", "json"];
+
+static TEXT_JSON_OR_CSV: [&str; 3] = ["text", "json", "csv"];
+
+static DRAW_FORMS: [&str; 6] = ["text", "svg", "html", "json", "kanata", "vcd"];
+
+static PROFILE_FORMS: [&str; 3] = ["text", "json", "callgrind"];
+
+static BLOCKS_FORMS: [&str; 3] = ["text", "json", "dot"];
+
+static CACHES_FORMS: [&str; 3] = ["text", "json", "svg"];
+
+static TRACE_FORMS: [&str; 1] = ["jsonl"];
+
+static SCHEDULERS: [&str; 4] = ["padded", "list", "copies", "best"];
+
+static COLOURS: [&str; 2] = ["always", "never"];
+
+static PARTS: [&str; 4] = ["line", "label", "function", "c"];
+
+static SORTS: [&str; 9] = [
+    "line", "count", "cycles", "caused", "cpi", "stalls", "noops", "squashed", "killed",
+];
+
+impl Choice {
+    /// The words.
+    pub fn words(self) -> &'static [&'static str] {
+        match self {
+            Choice::TextOrJson => &TEXT_OR_JSON,
+            Choice::TextJsonOrCsv => &TEXT_JSON_OR_CSV,
+            Choice::DrawForm => &DRAW_FORMS,
+            Choice::ProfileForm => &PROFILE_FORMS,
+            Choice::BlocksForm => &BLOCKS_FORMS,
+            Choice::CachesForm => &CACHES_FORMS,
+            Choice::TraceForm => &TRACE_FORMS,
+            Choice::Scheduler => &SCHEDULERS,
+            Choice::Colour => &COLOURS,
+            Choice::Part => &PARTS,
+            Choice::Sort => &SORTS,
+        }
+    }
+}
+
+/// What is known of an argument: its name, without the two hyphens of an option, what it is, the text that is taken where it is
+/// left out, if there is one, and what help says.
+#[derive(Clone, Copy)]
+pub(crate) struct ArgumentRow {
     pub name: &'static str,
     pub takes: Takes,
+    pub default: Option<&'static str>,
     pub help: &'static str,
 }
 
-/// What the words of a command are.
+/// The arguments. Those of one name differ in what they take, or in what help says.
 #[derive(Clone, Copy)]
-pub(crate) struct CommandRow {
-    pub name: &'static str,
-    pub command: CommandName,
-    pub about: &'static str,
-    pub names: Names,
-    pub options: &'static [OptionRow],
+pub(crate) enum ArgumentName {
+    Source,
+    Sources,
+    File,
+    PlansFile,
+    Image,
+    WrittenImage,
+    Certificate,
+    Label,
+    Budget,
+    SessionBudget,
+    Interrupts,
+    Input,
+    Scheduler,
+    PlanFile,
+    LinkedPlans,
+    NamedPlans,
+    DrawForm,
+    FirstDrawn,
+    Cycles,
+    All,
+    CheckForm,
+    Colour,
+    ExplainForm,
+    By,
+    Sort,
+    ProfileForm,
+    CompareForm,
+    BlocksForm,
+    DisassembleForm,
+    CachesForm,
+    Line,
+    Brings,
+    Penalty,
+    From,
+    To,
+    Step,
+    Pairs,
+    Rows,
+    SweepForm,
+    TraceForm,
+    Stops,
+    Watch,
+    Output,
+    Print,
 }
 
-pub(crate) const BUDGET: OptionRow = OptionRow {
-    name: "budget",
-    takes: Takes::Number {
-        default: Some("1000000"),
-        least: 1,
-        most: MOST_BUDGET,
-    },
-    help: "the most cycles that the run may take",
-};
-
-pub(crate) const INTERRUPTS: OptionRow = OptionRow {
-    name: "interrupts",
-    takes: Takes::File,
-    help: "the cycles in which an interrupt is requested",
-};
-
-pub(crate) const INPUT: OptionRow = OptionRow {
-    name: "input",
-    takes: Takes::File,
-    help: "the bytes of the input",
-};
-
-// The form of what is printed.
-const TEXT_OR_JSON: Takes = Takes::Word {
-    called: "FORM",
-    words: &["text", "json"],
-    default: "text",
-};
-
-const TEXT_JSON_OR_CSV: Takes = Takes::Word {
-    called: "FORM",
-    words: &["text", "json", "csv"],
-    default: "text",
-};
-
-// The first of some cycles.
-const FIRST_CYCLE: Takes = Takes::Number {
-    default: Some("0"),
-    least: 0,
-    most: MOST_BUDGET,
-};
-
-pub(crate) const SCHEDULER: OptionRow = OptionRow {
-    name: "scheduler",
-    takes: Takes::Word {
-        called: "NAME",
-        words: &["padded", "list", "copies", "best"],
-        default: "copies",
-    },
-    help: "the scheduler whose plans are run, as compare names it",
-};
-
-pub(crate) const PLAN_FILE: OptionRow = OptionRow {
-    name: "plans",
-    takes: Takes::File,
-    help: "a plan file, whose plans are run in place of a scheduler's",
-};
-
-// Without this option the toolchain answers the command.
-pub(crate) const LINKED_PLANS: OptionRow = OptionRow {
-    name: "plans",
-    takes: Takes::NeededFile,
-    help: "a plan file, by whose plans the source is linked",
-};
-
-pub(crate) const DRAW_FORM: OptionRow = OptionRow {
-    name: "as",
-    takes: Takes::Word {
-        called: "FORM",
-        words: &["text", "svg", "html", "json", "kanata", "vcd"],
-        default: "text",
-    },
-    help: "the form of the picture",
-};
-
-pub(crate) const FIRST_DRAWN: OptionRow = OptionRow {
-    name: "from",
-    takes: FIRST_CYCLE,
-    help: "the first cycle that is drawn",
-};
-
-pub(crate) const CYCLES: OptionRow = OptionRow {
-    name: "cycles",
-    takes: Takes::Number {
-        default: Some("64"),
-        least: 1,
-        most: MOST_DRAWN,
-    },
-    help: "how many cycles are drawn",
-};
-
-const DRAW: [OptionRow; 8] = [
-    DRAW_FORM,
-    FIRST_DRAWN,
-    CYCLES,
-    SCHEDULER,
-    PLAN_FILE,
-    BUDGET,
-    INTERRUPTS,
-    INPUT,
-];
-
-pub(crate) const ALL: OptionRow = OptionRow {
-    name: "all",
-    takes: Takes::Nothing,
-    help: "shows more than the first twenty",
-};
-
-pub(crate) const CHECK_FORM: OptionRow = OptionRow {
-    name: "as",
-    takes: TEXT_OR_JSON,
-    help: "the form of what is found",
-};
-
-pub(crate) const COLOUR: OptionRow = OptionRow {
-    name: "colour",
-    takes: Takes::Word {
-        called: "WHEN",
-        words: &["always", "never"],
-        default: "never",
-    },
-    help: "whether the text is in the colours of a terminal",
-};
-
-const CHECK: [OptionRow; 3] = [ALL, CHECK_FORM, COLOUR];
-
-pub(crate) const EXPLAIN_FORM: OptionRow = OptionRow {
-    name: "as",
-    takes: TEXT_OR_JSON,
-    help: "the form of the output",
-};
-
-const EXPLAIN: [OptionRow; 4] = [EXPLAIN_FORM, BUDGET, INTERRUPTS, INPUT];
-
-pub(crate) const BY: OptionRow = OptionRow {
-    name: "by",
-    takes: Takes::Word {
-        called: "PART",
-        words: &["line", "label", "function", "c"],
-        default: "line",
-    },
-    help: "the parts of the profile: lines, labels, functions, or lines of C",
-};
-
-pub(crate) const SORT: OptionRow = OptionRow {
-    name: "sort",
-    takes: Takes::Word {
-        called: "COLUMN",
-        words: &[
-            "line", "count", "cycles", "caused", "cpi", "stalls", "noops", "squashed", "killed",
-        ],
-        default: "line",
-    },
-    help: "the column whose greatest number comes first; line is the order of the source",
-};
-
-pub(crate) const PROFILE_FORM: OptionRow = OptionRow {
-    name: "as",
-    takes: Takes::Word {
-        called: "FORM",
-        words: &["text", "json", "callgrind"],
-        default: "text",
-    },
-    help: "the form of the profile",
-};
-
-const PROFILE: [OptionRow; 8] = [
-    BY,
-    SORT,
-    PROFILE_FORM,
-    SCHEDULER,
-    PLAN_FILE,
-    BUDGET,
-    INTERRUPTS,
-    INPUT,
-];
-
-pub(crate) const COMPARE_FORM: OptionRow = OptionRow {
-    name: "as",
-    takes: TEXT_JSON_OR_CSV,
-    help: "the form of the comparison",
-};
-
-pub(crate) const NAMED_PLANS: OptionRow = OptionRow {
-    name: "plans",
-    takes: Takes::NamedFile,
-    help: "a column for the plans of a file, by a name; may come several times",
-};
-
-const COMPARE: [OptionRow; 5] = [COMPARE_FORM, NAMED_PLANS, BUDGET, INTERRUPTS, INPUT];
-
-pub(crate) const BLOCKS_FORM: OptionRow = OptionRow {
-    name: "as",
-    takes: Takes::Word {
-        called: "FORM",
-        words: &["text", "json", "dot"],
-        default: "text",
-    },
-    help: "the form of the blocks",
-};
-
-const BLOCKS: [OptionRow; 4] = [BLOCKS_FORM, BUDGET, INTERRUPTS, INPUT];
-
-pub(crate) const DISASSEMBLE_FORM: OptionRow = OptionRow {
-    name: "as",
-    takes: TEXT_OR_JSON,
-    help: "the form of the listing",
-};
-
-const DISASSEMBLE: [OptionRow; 1] = [DISASSEMBLE_FORM];
-
-pub(crate) const CACHES_FORM: OptionRow = OptionRow {
-    name: "as",
-    takes: Takes::Word {
-        called: "FORM",
-        words: &["text", "json", "svg"],
-        default: "text",
-    },
-    help: "the form of the table",
-};
-
-pub(crate) const LINE: OptionRow = OptionRow {
-    name: "line",
-    takes: Takes::Number {
-        default: Some("16"),
-        least: 1,
-        most: MOST_WORDS,
-    },
-    help: "the words of a line",
-};
-
-pub(crate) const BRINGS: OptionRow = OptionRow {
-    name: "brings",
-    takes: Takes::Number {
-        default: Some("2"),
-        least: 1,
-        most: MOST_WORDS,
-    },
-    help: "the words that a miss brings, at most those of a line",
-};
-
-pub(crate) const PENALTY: OptionRow = OptionRow {
-    name: "penalty",
-    takes: Takes::Number {
-        default: Some("2"),
-        least: 0,
-        most: MOST_PENALTY,
-    },
-    help: "the cycles that a miss costs",
-};
-
-const CACHES: [OptionRow; 7] = [CACHES_FORM, LINE, BRINGS, PENALTY, PLAN_FILE, BUDGET, INPUT];
-
-pub(crate) const FROM: OptionRow = OptionRow {
-    name: "from",
-    takes: FIRST_CYCLE,
-    help: "the first cycle in which a request comes",
-};
-
-pub(crate) const TO: OptionRow = OptionRow {
-    name: "to",
-    takes: Takes::Number {
+// What is known of the arguments, in the order of their names above.
+static ARGUMENTS: [ArgumentRow; 44] = [
+    ArgumentRow {
+        name: "SOURCE",
+        takes: Takes::Positional { is_required: true },
         default: None,
-        least: 0,
-        most: MOST_BUDGET,
+        help: "the source, in assembly language; - is standard input",
     },
-    help: "the last cycle in which a request comes; that of the undisturbed run without it",
-};
-
-pub(crate) const STEP: OptionRow = OptionRow {
-    name: "step",
-    takes: Takes::Number {
-        default: Some("1"),
-        least: 1,
-        most: MOST_BUDGET,
+    ArgumentRow {
+        name: "SOURCE",
+        takes: Takes::Positionals,
+        default: None,
+        help: "the source, in assembly language; - is standard input",
     },
-    help: "how many cycles the requests of two runs are apart",
-};
-
-pub(crate) const PAIRS: OptionRow = OptionRow {
-    name: "pairs",
-    takes: Takes::Nothing,
-    help: "runs with a request in each two of the cycles",
-};
-
-pub(crate) const ROWS: OptionRow = OptionRow {
-    name: "rows",
-    takes: Takes::Nothing,
-    help: "prints each run as well",
-};
-
-pub(crate) const SWEEP_FORM: OptionRow = OptionRow {
-    name: "as",
-    takes: TEXT_JSON_OR_CSV,
-    help: "the form of the output",
-};
-
-const SWEEP: [OptionRow; 9] = [
-    FROM, TO, STEP, PAIRS, ROWS, SWEEP_FORM, PLAN_FILE, BUDGET, INPUT,
-];
-
-pub(crate) const TRACE_FORM: OptionRow = OptionRow {
-    name: "as",
-    takes: Takes::Word {
-        called: "FORM",
-        words: &["jsonl"],
-        default: "jsonl",
+    ArgumentRow {
+        name: "FILE",
+        takes: Takes::Positional { is_required: true },
+        default: None,
+        help: "the source, in assembly language, or the image file",
     },
-    help: "the form of the trace: a JSON text a line",
-};
-
-const TRACE: [OptionRow; 6] = [TRACE_FORM, SCHEDULER, PLAN_FILE, BUDGET, INTERRUPTS, INPUT];
-
-const PLANS: [OptionRow; 3] = [BUDGET, INTERRUPTS, INPUT];
-
-const BUILD: [OptionRow; 1] = [LINKED_PLANS];
-
-// The numbers are those of the toolchain's command, which links without a plan file.
-pub(crate) const STOPS: OptionRow = OptionRow {
-    name: "stops",
-    takes: Takes::Number {
-        default: Some("1"),
-        least: 1,
-        most: MOST_STOPS,
+    // It is required unless one is printed.
+    ArgumentRow {
+        name: FILE_NAME,
+        takes: Takes::Positional { is_required: false },
+        default: None,
+        help: "the plans, a line for each block",
     },
-    help: "how many stops are shown",
-};
-
-pub(crate) const WATCH: OptionRow = OptionRow {
-    name: "watch",
-    takes: Takes::Number {
-        default: Some("256"),
-        least: FIRST_DATA,
-        most: LAST_DATA,
+    ArgumentRow {
+        name: "IMAGE",
+        takes: Takes::Positional { is_required: true },
+        default: None,
+        help: "the image file",
     },
-    help: "the data word that each stop shows",
-};
-
-pub(crate) const SESSION_BUDGET: OptionRow = OptionRow {
-    name: "budget",
-    takes: Takes::Number {
+    ArgumentRow {
+        name: "IMAGE",
+        takes: Takes::Positional { is_required: true },
+        default: None,
+        help: "the image file that is written",
+    },
+    ArgumentRow {
+        name: "CERTIFICATE",
+        takes: Takes::Positional { is_required: true },
+        default: None,
+        help: "the certificate",
+    },
+    ArgumentRow {
+        name: "LABEL",
+        takes: Takes::Positional { is_required: true },
+        default: None,
+        help: "the label of an instruction",
+    },
+    ArgumentRow {
+        name: "budget",
+        takes: Takes::Number {
+            least: 1,
+            most: MOST_BUDGET,
+        },
         default: Some("1000000"),
-        least: 0,
-        most: MOST_BUDGET,
+        help: "the most cycles that the run may take",
     },
-    help: "the most cycles that the run may take",
-};
-
-const DEBUG: [OptionRow; 6] = [
-    LINKED_PLANS,
-    STOPS,
-    WATCH,
-    SESSION_BUDGET,
-    INTERRUPTS,
-    INPUT,
-];
-
-const NONE: [OptionRow; 0] = [];
-
-/// The option of each command but `build` that names the file for what is printed.
-pub(crate) const OUTPUT: OptionRow = OptionRow {
-    name: "output",
-    takes: Takes::File,
-    help: "writes what is printed to a file",
-};
-
-/// The option of `plans` that asks for a plan file.
-pub(crate) const PRINT: OptionRow = OptionRow {
-    name: "print",
-    takes: Takes::Nothing,
-    help: "prints the plans of the list scheduler",
-};
-
-/// The commands, in the order in which help tells them. Another one is added here, in `options.rt` and `reading.rt`,
-/// and where it is answered, in `top.rt` of `lab_command`.
-pub(crate) static COMMANDS: [CommandRow; 15] = [
-    CommandRow {
-        name: "draw",
-        command: CommandName::Draw,
-        about: "draws the instructions of a run by its cycles",
-        names: Names::Source,
-        options: &DRAW,
+    // The numbers of a session are those of the toolchain's command, which links without a plan file.
+    ArgumentRow {
+        name: "budget",
+        takes: Takes::Number {
+            least: 0,
+            most: MOST_BUDGET,
+        },
+        default: Some("1000000"),
+        help: "the most cycles that the run may take",
     },
-    CommandRow {
-        name: "check",
-        command: CommandName::Check,
-        about: "shows every faulty line of a source, or of several modules, and what is wrong with it",
-        names: Names::Sources,
-        options: &CHECK,
-    },
-    CommandRow {
-        name: "explain",
-        command: CommandName::Explain,
-        about: "compares a run with the sequential semantics",
-        names: Names::Source,
-        options: &EXPLAIN,
-    },
-    CommandRow {
-        name: "profile",
-        command: CommandName::Profile,
-        about: "measures what each part of a source costs in a run",
-        names: Names::Source,
-        options: &PROFILE,
-    },
-    CommandRow {
-        name: "compare",
-        command: CommandName::Compare,
-        about: "compares what four schedulers make of a source, or of several",
-        names: Names::Sources,
-        options: &COMPARE,
-    },
-    CommandRow {
-        name: "disassemble",
-        command: CommandName::Disassemble,
-        about: "lists the words of a source or an image file in assembly language",
-        names: Names::File,
-        options: &DISASSEMBLE,
-    },
-    CommandRow {
-        name: "blocks",
-        command: CommandName::Blocks,
-        about: "shows the blocks of a source, their dependences and the lengths of their plans",
-        names: Names::Source,
-        options: &BLOCKS,
-    },
-    CommandRow {
-        name: "caches",
-        command: CommandName::Caches,
-        about: "measures a run with other caches",
-        names: Names::Source,
-        options: &CACHES,
-    },
-    CommandRow {
+    ArgumentRow {
         name: "interrupts",
-        command: CommandName::Interrupts,
-        about: "measures what an interrupt costs in each cycle of a run",
-        names: Names::Source,
-        options: &SWEEP,
+        takes: Takes::File,
+        default: None,
+        help: "the cycles in which an interrupt is requested",
     },
-    CommandRow {
-        name: "trace",
-        command: CommandName::Trace,
-        about: "prints each turn of a run, for programs that replay it",
-        names: Names::Source,
-        options: &TRACE,
+    ArgumentRow {
+        name: "input",
+        takes: Takes::File,
+        default: None,
+        help: "the bytes of the input",
     },
-    CommandRow {
+    ArgumentRow {
+        name: "scheduler",
+        takes: Takes::Word {
+            called: "NAME",
+            choice: Choice::Scheduler,
+        },
+        default: Some("copies"),
+        help: "the scheduler whose plans are run, as compare names it",
+    },
+    ArgumentRow {
         name: "plans",
-        command: CommandName::Plans,
-        about: "runs a source by plans from a file",
-        names: Names::Plans,
-        options: &PLANS,
+        takes: Takes::File,
+        default: None,
+        help: "a plan file, whose plans are run in place of a scheduler's",
     },
-    CommandRow {
-        name: "build",
-        command: CommandName::Build,
-        about: "writes a source that is linked by plans from a file as an image file",
-        names: Names::Image,
-        options: &BUILD,
+    // Without this option the toolchain answers the command.
+    ArgumentRow {
+        name: "plans",
+        takes: Takes::NeededFile,
+        default: None,
+        help: "a plan file, by whose plans the source is linked",
     },
-    CommandRow {
-        name: "debug",
-        command: CommandName::Debug,
-        about: "stops a source that is linked by plans from a file each time that it comes to a label",
-        names: Names::Label,
-        options: &DEBUG,
+    ArgumentRow {
+        name: "plans",
+        takes: Takes::NamedFile,
+        default: None,
+        help: "a column for the plans of a file, by a name; may come several times",
     },
-    CommandRow {
-        name: "certify",
-        command: CommandName::Certify,
-        about: "prints what shows that the image of a source means it",
-        names: Names::Source,
-        options: &NONE,
+    ArgumentRow {
+        name: "as",
+        takes: Takes::Word {
+            called: "FORM",
+            choice: Choice::DrawForm,
+        },
+        default: Some("text"),
+        help: "the form of the picture",
     },
-    CommandRow {
-        name: "verify",
-        command: CommandName::Verify,
-        about: "checks by a certificate that an image means a source",
-        names: Names::Certified,
-        options: &NONE,
+    ArgumentRow {
+        name: "from",
+        takes: Takes::Number {
+            least: 0,
+            most: MOST_BUDGET,
+        },
+        default: Some("0"),
+        help: "the first cycle that is drawn",
+    },
+    ArgumentRow {
+        name: "cycles",
+        takes: Takes::Number {
+            least: 1,
+            most: MOST_DRAWN,
+        },
+        default: Some("64"),
+        help: "how many cycles are drawn",
+    },
+    ArgumentRow {
+        name: "all",
+        takes: Takes::Nothing,
+        default: None,
+        help: "shows more than the first twenty",
+    },
+    ArgumentRow {
+        name: "as",
+        takes: Takes::Word {
+            called: "FORM",
+            choice: Choice::TextOrJson,
+        },
+        default: Some("text"),
+        help: "the form of what is found",
+    },
+    ArgumentRow {
+        name: "colour",
+        takes: Takes::Word {
+            called: "WHEN",
+            choice: Choice::Colour,
+        },
+        default: Some("never"),
+        help: "whether the text is in the colours of a terminal",
+    },
+    ArgumentRow {
+        name: "as",
+        takes: Takes::Word {
+            called: "FORM",
+            choice: Choice::TextOrJson,
+        },
+        default: Some("text"),
+        help: "the form of the output",
+    },
+    ArgumentRow {
+        name: "by",
+        takes: Takes::Word {
+            called: "PART",
+            choice: Choice::Part,
+        },
+        default: Some("line"),
+        help: "the parts of the profile: lines, labels, functions, or lines of C",
+    },
+    ArgumentRow {
+        name: "sort",
+        takes: Takes::Word {
+            called: "COLUMN",
+            choice: Choice::Sort,
+        },
+        default: Some("line"),
+        help: "the column whose greatest number comes first; line is the order of the source",
+    },
+    ArgumentRow {
+        name: "as",
+        takes: Takes::Word {
+            called: "FORM",
+            choice: Choice::ProfileForm,
+        },
+        default: Some("text"),
+        help: "the form of the profile",
+    },
+    ArgumentRow {
+        name: "as",
+        takes: Takes::Word {
+            called: "FORM",
+            choice: Choice::TextJsonOrCsv,
+        },
+        default: Some("text"),
+        help: "the form of the comparison",
+    },
+    ArgumentRow {
+        name: "as",
+        takes: Takes::Word {
+            called: "FORM",
+            choice: Choice::BlocksForm,
+        },
+        default: Some("text"),
+        help: "the form of the blocks",
+    },
+    ArgumentRow {
+        name: "as",
+        takes: Takes::Word {
+            called: "FORM",
+            choice: Choice::TextOrJson,
+        },
+        default: Some("text"),
+        help: "the form of the listing",
+    },
+    ArgumentRow {
+        name: "as",
+        takes: Takes::Word {
+            called: "FORM",
+            choice: Choice::CachesForm,
+        },
+        default: Some("text"),
+        help: "the form of the table",
+    },
+    ArgumentRow {
+        name: "line",
+        takes: Takes::Number {
+            least: 1,
+            most: MOST_WORDS,
+        },
+        default: Some("16"),
+        help: "the words of a line",
+    },
+    ArgumentRow {
+        name: "brings",
+        takes: Takes::Number {
+            least: 1,
+            most: MOST_WORDS,
+        },
+        default: Some("2"),
+        help: "the words that a miss brings, at most those of a line",
+    },
+    ArgumentRow {
+        name: "penalty",
+        takes: Takes::Number {
+            least: 0,
+            most: MOST_PENALTY,
+        },
+        default: Some("2"),
+        help: "the cycles that a miss costs",
+    },
+    ArgumentRow {
+        name: "from",
+        takes: Takes::Number {
+            least: 0,
+            most: MOST_BUDGET,
+        },
+        default: Some("0"),
+        help: "the first cycle in which a request comes",
+    },
+    ArgumentRow {
+        name: "to",
+        takes: Takes::Number {
+            least: 0,
+            most: MOST_BUDGET,
+        },
+        default: None,
+        help: "the last cycle in which a request comes; that of the undisturbed run without it",
+    },
+    ArgumentRow {
+        name: "step",
+        takes: Takes::Number {
+            least: 1,
+            most: MOST_BUDGET,
+        },
+        default: Some("1"),
+        help: "how many cycles the requests of two runs are apart",
+    },
+    ArgumentRow {
+        name: "pairs",
+        takes: Takes::Nothing,
+        default: None,
+        help: "runs with a request in each two of the cycles",
+    },
+    ArgumentRow {
+        name: "rows",
+        takes: Takes::Nothing,
+        default: None,
+        help: "prints each run as well",
+    },
+    ArgumentRow {
+        name: "as",
+        takes: Takes::Word {
+            called: "FORM",
+            choice: Choice::TextJsonOrCsv,
+        },
+        default: Some("text"),
+        help: "the form of the output",
+    },
+    ArgumentRow {
+        name: "as",
+        takes: Takes::Word {
+            called: "FORM",
+            choice: Choice::TraceForm,
+        },
+        default: Some("jsonl"),
+        help: "the form of the trace: a JSON text a line",
+    },
+    ArgumentRow {
+        name: "stops",
+        takes: Takes::Number {
+            least: 1,
+            most: MOST_STOPS,
+        },
+        default: Some("1"),
+        help: "how many stops are shown",
+    },
+    ArgumentRow {
+        name: "watch",
+        takes: Takes::Number {
+            least: FIRST_DATA,
+            most: LAST_DATA,
+        },
+        default: Some("256"),
+        help: "the data word that each stop shows",
+    },
+    ArgumentRow {
+        name: "output",
+        takes: Takes::File,
+        default: None,
+        help: "writes what is printed to a file",
+    },
+    ArgumentRow {
+        name: PRINT_NAME,
+        takes: Takes::Nothing,
+        default: None,
+        help: "prints the plans of the list scheduler",
     },
 ];
 
-// The command of this name in a table, if there is one.
-fn command_in(rows: &[CommandRow], name: &str) -> Option<CommandName>
-    ensures { result ≡ option_map (λ row. row.command) (find (λ row. bytes_eq row.name.now name.now) rows.now) }
-{
-    for row in rows {
-        if row.name == name {
-            return Some(row.command);
+impl ArgumentName {
+    /// What is known of it.
+    pub fn row(self) -> &'static ArgumentRow {
+        &ARGUMENTS[self as usize]
+    }
+
+    /// Its name, without the two hyphens of an option.
+    pub fn name(self) -> &'static str {
+        self.row().name
+    }
+
+    /// What it is.
+    pub fn takes(self) -> Takes {
+        self.row().takes
+    }
+}
+
+static DRAW: [ArgumentName; 10] = [
+    ArgumentName::Source,
+    ArgumentName::DrawForm,
+    ArgumentName::FirstDrawn,
+    ArgumentName::Cycles,
+    ArgumentName::Scheduler,
+    ArgumentName::PlanFile,
+    ArgumentName::Budget,
+    ArgumentName::Interrupts,
+    ArgumentName::Input,
+    ArgumentName::Output,
+];
+
+static CHECK: [ArgumentName; 5] = [
+    ArgumentName::Sources,
+    ArgumentName::All,
+    ArgumentName::CheckForm,
+    ArgumentName::Colour,
+    ArgumentName::Output,
+];
+
+static EXPLAIN: [ArgumentName; 6] = [
+    ArgumentName::Source,
+    ArgumentName::ExplainForm,
+    ArgumentName::Budget,
+    ArgumentName::Interrupts,
+    ArgumentName::Input,
+    ArgumentName::Output,
+];
+
+static PROFILE: [ArgumentName; 10] = [
+    ArgumentName::Source,
+    ArgumentName::By,
+    ArgumentName::Sort,
+    ArgumentName::ProfileForm,
+    ArgumentName::Scheduler,
+    ArgumentName::PlanFile,
+    ArgumentName::Budget,
+    ArgumentName::Interrupts,
+    ArgumentName::Input,
+    ArgumentName::Output,
+];
+
+static COMPARE: [ArgumentName; 7] = [
+    ArgumentName::Sources,
+    ArgumentName::CompareForm,
+    ArgumentName::NamedPlans,
+    ArgumentName::Budget,
+    ArgumentName::Interrupts,
+    ArgumentName::Input,
+    ArgumentName::Output,
+];
+
+static DISASSEMBLE: [ArgumentName; 3] = [
+    ArgumentName::File,
+    ArgumentName::DisassembleForm,
+    ArgumentName::Output,
+];
+
+static BLOCKS: [ArgumentName; 6] = [
+    ArgumentName::Source,
+    ArgumentName::BlocksForm,
+    ArgumentName::Budget,
+    ArgumentName::Interrupts,
+    ArgumentName::Input,
+    ArgumentName::Output,
+];
+
+static CACHES: [ArgumentName; 9] = [
+    ArgumentName::Source,
+    ArgumentName::CachesForm,
+    ArgumentName::Line,
+    ArgumentName::Brings,
+    ArgumentName::Penalty,
+    ArgumentName::PlanFile,
+    ArgumentName::Budget,
+    ArgumentName::Input,
+    ArgumentName::Output,
+];
+
+static INTERRUPTS: [ArgumentName; 11] = [
+    ArgumentName::Source,
+    ArgumentName::From,
+    ArgumentName::To,
+    ArgumentName::Step,
+    ArgumentName::Pairs,
+    ArgumentName::Rows,
+    ArgumentName::SweepForm,
+    ArgumentName::PlanFile,
+    ArgumentName::Budget,
+    ArgumentName::Input,
+    ArgumentName::Output,
+];
+
+static TRACE: [ArgumentName; 8] = [
+    ArgumentName::Source,
+    ArgumentName::TraceForm,
+    ArgumentName::Scheduler,
+    ArgumentName::PlanFile,
+    ArgumentName::Budget,
+    ArgumentName::Interrupts,
+    ArgumentName::Input,
+    ArgumentName::Output,
+];
+
+static PLANS: [ArgumentName; 7] = [
+    ArgumentName::Source,
+    ArgumentName::PlansFile,
+    ArgumentName::Print,
+    ArgumentName::Budget,
+    ArgumentName::Interrupts,
+    ArgumentName::Input,
+    ArgumentName::Output,
+];
+
+static BUILD: [ArgumentName; 3] = [
+    ArgumentName::Source,
+    ArgumentName::WrittenImage,
+    ArgumentName::LinkedPlans,
+];
+
+static DEBUG: [ArgumentName; 9] = [
+    ArgumentName::Source,
+    ArgumentName::Label,
+    ArgumentName::LinkedPlans,
+    ArgumentName::Stops,
+    ArgumentName::Watch,
+    ArgumentName::SessionBudget,
+    ArgumentName::Interrupts,
+    ArgumentName::Input,
+    ArgumentName::Output,
+];
+
+static CERTIFY: [ArgumentName; 2] = [ArgumentName::Source, ArgumentName::Output];
+
+static VERIFY: [ArgumentName; 4] = [
+    ArgumentName::Source,
+    ArgumentName::Image,
+    ArgumentName::Certificate,
+    ArgumentName::Output,
+];
+
+impl CommandName {
+    /// Its arguments, in the order in which help lists them: the positional ones come first.
+    pub fn arguments(self) -> &'static [ArgumentName] {
+        match self {
+            CommandName::Draw => &DRAW,
+            CommandName::Check => &CHECK,
+            CommandName::Explain => &EXPLAIN,
+            CommandName::Profile => &PROFILE,
+            CommandName::Compare => &COMPARE,
+            CommandName::Disassemble => &DISASSEMBLE,
+            CommandName::Blocks => &BLOCKS,
+            CommandName::Caches => &CACHES,
+            CommandName::Interrupts => &INTERRUPTS,
+            CommandName::Trace => &TRACE,
+            CommandName::Plans => &PLANS,
+            CommandName::Build => &BUILD,
+            CommandName::Debug => &DEBUG,
+            CommandName::Certify => &CERTIFY,
+            CommandName::Verify => &VERIFY,
         }
     }
-    None
+
+    /// What help says of it.
+    pub fn about(self) -> &'static str {
+        ABOUT[self as usize]
+    }
+}
+
+// What help says of the commands, in the order of their names above.
+static ABOUT: [&str; 15] = [
+    "shows the blocks of a source, their dependences and the lengths of their plans",
+    "writes a source that is linked by plans from a file as an image file",
+    "measures a run with other caches",
+    "prints what shows that the image of a source means it",
+    "shows every faulty line of a source, or of several modules, and what is wrong with it",
+    "compares what four schedulers make of a source, or of several",
+    "stops a source that is linked by plans from a file each time that it comes to a label",
+    "lists the words of a source or an image file in assembly language",
+    "draws the instructions of a run by its cycles",
+    "compares a run with the sequential semantics",
+    "measures what an interrupt costs in each cycle of a run",
+    "runs a source by plans from a file",
+    "measures what each part of a source costs in a run",
+    "prints each turn of a run, for programs that replay it",
+    "checks by a certificate that an image means a source",
+];
+
+// The commands, in the order in which help lists them. Another one is added here, in `options.rt` of `lab_options`, in
+// `reading.rt`, and where it is answered, in `top.rt` of `lab_command`.
+static COMMANDS: [WordRow<CommandName>; 15] = [
+    WordRow {
+        word: "draw",
+        means: CommandName::Draw,
+    },
+    WordRow {
+        word: "check",
+        means: CommandName::Check,
+    },
+    WordRow {
+        word: "explain",
+        means: CommandName::Explain,
+    },
+    WordRow {
+        word: "profile",
+        means: CommandName::Profile,
+    },
+    WordRow {
+        word: "compare",
+        means: CommandName::Compare,
+    },
+    WordRow {
+        word: "disassemble",
+        means: CommandName::Disassemble,
+    },
+    WordRow {
+        word: "blocks",
+        means: CommandName::Blocks,
+    },
+    WordRow {
+        word: "caches",
+        means: CommandName::Caches,
+    },
+    WordRow {
+        word: "interrupts",
+        means: CommandName::Interrupts,
+    },
+    WordRow {
+        word: "trace",
+        means: CommandName::Trace,
+    },
+    WordRow {
+        word: "plans",
+        means: CommandName::Plans,
+    },
+    WordRow {
+        word: "build",
+        means: CommandName::Build,
+    },
+    WordRow {
+        word: "debug",
+        means: CommandName::Debug,
+    },
+    WordRow {
+        word: "certify",
+        means: CommandName::Certify,
+    },
+    WordRow {
+        word: "verify",
+        means: CommandName::Verify,
+    },
+];
+
+/// The commands, in the order in which help lists them.
+pub(crate) fn commands() -> &'static [WordRow<CommandName>] {
+    &COMMANDS
 }
 
 /// The command of this name, if there is one.
 pub(crate) fn command_named(name: &str) -> Option<CommandName> {
-    command_in(&COMMANDS, name)
+    meaning_in(commands(), name)
 }

@@ -1,83 +1,53 @@
-//! The words of the command line, by the table of commands.
+//! The arguments of the command line, by the table of commands.
 use crate::table::{
-    CERTIFICATE_NAME, COMMANDS, CommandRow, FILE_NAME, IMAGE_NAME, LABEL_NAME, Names, OUTPUT,
-    OptionRow, PRINT, PRINT_NAME, SOURCE_NAME, Takes,
+    ArgumentName, ArgumentRow, CommandName, FILE_NAME, PRINT_NAME, Takes, commands,
 };
 use clap::{Arg, ArgAction, ArgMatches, Command, value_parser};
+use lab_options::WordRow;
 use std::alloc::{AllocError, Global};
 
-/// What is said of a source.
-const SOURCE: &str = "the source, in assembly language; - is standard input";
-
-// A name that has to be there.
-fn name_arg<'a>(alloc: Global, name: &'static str, help: &'static str) -> Arg<'a> {
-    Arg::new(alloc, name)
-        .required(true)
-        .action(ArgAction::Set)
-        .help(help)
-}
-
-// What stands first behind a command.
-fn first_arg<'a>(alloc: Global, names: Names) -> Arg<'a> {
-    match names {
-        Names::File => name_arg(
-            alloc,
-            FILE_NAME,
-            "the source, in assembly language, or the image file",
-        ),
-        Names::Sources => name_arg(alloc, SOURCE_NAME, SOURCE)
-            .num_args(1..)
-            .action(ArgAction::Append),
-        Names::Source | Names::Plans | Names::Certified | Names::Image | Names::Label => {
-            name_arg(alloc, SOURCE_NAME, SOURCE)
-        }
+// What is done with the values of an argument.
+fn action_of(takes: Takes) -> ArgAction {
+    match takes {
+        Takes::Nothing => ArgAction::SetTrue,
+        Takes::Positionals | Takes::NamedFile => ArgAction::Append,
+        Takes::Positional { .. } | Takes::File | Takes::NeededFile => ArgAction::Set,
+        Takes::Number { .. } | Takes::Word { .. } => ArgAction::Set,
     }
 }
 
-// An option, before what it takes is said.
-fn bare_option<'a>(alloc: Global, row: &OptionRow) -> Arg<'a> {
-    Arg::new(alloc, row.name).long(row.name).help(row.help)
+// An argument has to be there.
+fn is_required(takes: Takes) -> bool {
+    match takes {
+        Takes::Positional { is_required } => is_required,
+        Takes::Positionals | Takes::NeededFile => true,
+        _ => false,
+    }
 }
 
-// An option without a value.
-fn flag_option<'a>(alloc: Global, row: &OptionRow) -> Arg<'a> {
-    bare_option(alloc, row).action(ArgAction::SetTrue)
+// What help calls the value of an option.
+fn value_name(takes: Takes) -> &'static str {
+    match takes {
+        Takes::NamedFile => "NAME=FILE",
+        Takes::Number { .. } => "N",
+        Takes::Word { called, .. } => called,
+        _ => "FILE",
+    }
 }
 
-// An option that takes a file.
-fn file_option<'a>(alloc: Global, row: &OptionRow, is_needed: bool) -> Arg<'a> {
-    bare_option(alloc, row)
-        .value_name("FILE")
-        .action(ArgAction::Set)
-        .required(is_needed)
+// An argument, before its kind is said.
+fn bare_arg<'a>(alloc: Global, row: &ArgumentRow) -> Arg<'a> {
+    Arg::new(alloc, row.name)
+        .help(row.help)
+        .action(action_of(row.takes))
+        .required(is_required(row.takes))
 }
 
-// An option that takes a name and a file, and may come several times.
-fn named_file_option<'a>(alloc: Global, row: &OptionRow) -> Arg<'a> {
-    bare_option(alloc, row)
-        .value_name("NAME=FILE")
-        .action(ArgAction::Append)
-}
-
-// An option that takes a number.
-fn number_option<'a>(alloc: Global, row: &OptionRow, least: i64, most: i64) -> Arg<'a> {
-    bare_option(alloc, row)
-        .value_name("N")
-        .action(ArgAction::Set)
-        .value_parser(value_parser!(u32).range(least..=most))
-}
-
-// An option that takes one of some words.
-fn word_option<'a>(
-    alloc: Global,
-    row: &OptionRow,
-    called: &'static str,
-    words: &'static [&'static str],
-) -> Arg<'a> {
-    bare_option(alloc, row)
-        .value_name(called)
-        .action(ArgAction::Set)
-        .value_parser(&*words)
+// An option that takes a value.
+fn valued_option<'a>(alloc: Global, row: &ArgumentRow) -> Arg<'a> {
+    bare_arg(alloc, row)
+        .long(row.name)
+        .value_name(value_name(row.takes))
 }
 
 // An option with a default, if it has one.
@@ -88,48 +58,30 @@ fn with_default<'a>(arg: Arg<'a>, default: Option<&'static str>) -> Arg<'a> {
     }
 }
 
-// The option of a row, before its default.
-fn option_without<'a>(alloc: Global, row: &OptionRow) -> Arg<'a> {
+// An argument of its kind, before its default.
+fn kind_arg<'a>(alloc: Global, row: &ArgumentRow) -> Arg<'a> {
     match row.takes {
-        Takes::Nothing => flag_option(alloc, row),
-        Takes::File => file_option(alloc, row, false),
-        Takes::NeededFile => file_option(alloc, row, true),
-        Takes::NamedFile => named_file_option(alloc, row),
-        Takes::Number { least, most, .. } => number_option(alloc, row, least, most),
-        Takes::Word { called, words, .. } => word_option(alloc, row, called, words),
+        Takes::Positional { .. } => bare_arg(alloc, row),
+        Takes::Positionals => bare_arg(alloc, row).num_args(1..),
+        Takes::Nothing => bare_arg(alloc, row).long(row.name),
+        Takes::File | Takes::NeededFile | Takes::NamedFile => valued_option(alloc, row),
+        Takes::Number { least, most } => {
+            valued_option(alloc, row).value_parser(value_parser!(u32).range(least..=most))
+        }
+        Takes::Word { choice, .. } => valued_option(alloc, row).value_parser(&*choice.words()),
     }
 }
 
-// The option of a row.
-fn option_arg<'a>(alloc: Global, row: &OptionRow) -> Arg<'a> {
-    let default = match row.takes {
-        Takes::Number { default, .. } => default,
-        Takes::Word { default, .. } => Some(default),
-        Takes::Nothing | Takes::File | Takes::NeededFile | Takes::NamedFile => None,
-    };
-    with_default(option_without(alloc, row), default)
-}
-
-// The plan file, unless one is printed.
-fn plans_arg<'a>(alloc: Global) -> Result<Arg<'a>, AllocError> {
-    let bare = Arg::new(alloc, FILE_NAME)
-        .action(ArgAction::Set)
-        .help("the plans, a line for each block");
-    bare.required_unless_present(PRINT_NAME)
-}
-
-// The flag that asks for a plan file.
-fn print_flag<'a>(alloc: Global) -> Result<Arg<'a>, AllocError> {
-    let bare = bare_option(alloc, &PRINT).action(ArgAction::SetTrue);
-    bare.conflicts_with(FILE_NAME)
-}
-
-// The file that a command's output goes to.
-fn output_option<'a>(alloc: Global) -> Arg<'a> {
-    bare_option(alloc, &OUTPUT)
-        .short('o')
-        .value_name("FILE")
-        .action(ArgAction::Set)
+// An argument: a plan file and the flag that asks for one exclude each other, and the file for what is printed has a short name.
+fn arg_of<'a>(alloc: Global, argument: ArgumentName) -> Result<Arg<'a>, AllocError> {
+    let row = argument.row();
+    let arg = with_default(kind_arg(alloc, row), row.default);
+    match argument {
+        ArgumentName::PlansFile => arg.required_unless_present(PRINT_NAME),
+        ArgumentName::Print => arg.conflicts_with(FILE_NAME),
+        ArgumentName::Output => Ok(arg.short('o')),
+        _ => Ok(arg),
+    }
 }
 
 // A command with one argument more, where there was memory for that.
@@ -140,68 +92,43 @@ fn with_arg<'a>(
     command.arg(arg?)
 }
 
-// The arguments of `plans` after the source.
-fn with_plans<'a>(alloc: Global, bare: Command<'a>) -> Result<Command<'a>, AllocError> {
-    let named = with_arg(bare, plans_arg(alloc))?;
-    with_arg(named, print_flag(alloc))
-}
-
-// The arguments of `verify` after the source.
-fn with_certified<'a>(alloc: Global, bare: Command<'a>) -> Result<Command<'a>, AllocError> {
-    let named = bare.arg(name_arg(alloc, IMAGE_NAME, "the image file"))?;
-    named.arg(name_arg(alloc, CERTIFICATE_NAME, "the certificate"))
-}
-
-// The arguments after the first one.
-fn with_names<'a>(
-    alloc: Global,
-    bare: Command<'a>,
-    names: Names,
-) -> Result<Command<'a>, AllocError> {
-    match names {
-        Names::Plans => with_plans(alloc, bare),
-        Names::Certified => with_certified(alloc, bare),
-        Names::Image => bare.arg(name_arg(alloc, IMAGE_NAME, "the image file that is written")),
-        Names::Label => bare.arg(name_arg(alloc, LABEL_NAME, "the label of an instruction")),
-        Names::Source | Names::Sources | Names::File => Ok(bare),
-    }
-}
-
-// A command with its arguments, before its options.
-fn named_command<'a>(alloc: Global, row: &CommandRow) -> Result<Command<'a>, AllocError> {
-    let bare = Command::new(alloc, row.name).about(row.about);
-    let first = bare.arg(first_arg(alloc, row.names))?;
-    with_names(alloc, first, row.names)
-}
-
 // The command of a row.
-fn command_of<'a>(alloc: Global, row: &CommandRow) -> Result<Command<'a>, AllocError> {
-    let mut command = named_command(alloc, row)?;
-    for option in row.options {
-        command = command.arg(option_arg(alloc, option))?;
+fn command_of<'a>(alloc: Global, row: &WordRow<CommandName>) -> Result<Command<'a>, AllocError> {
+    let mut command = Command::new(alloc, row.word).about(row.means.about());
+    for argument in row.means.arguments() {
+        command = with_arg(command, arg_of(alloc, *argument))?;
     }
-    match row.names {
-        Names::Image => Ok(command),
-        _ => command.arg(output_option(alloc)),
-    }
+    Ok(command)
 }
 
-// The whole command line.
-fn command_line<'a>(alloc: Global, rows: &[CommandRow]) -> Result<Command<'a>, AllocError> {
-    let mut whole = Command::new(alloc, "mx_lab")
+// The command line before its commands.
+fn bare_line<'a>(alloc: Global) -> Command<'a> {
+    Command::new(alloc, "mx_lab")
         .about("Shows what a program for MIPS-X does, in pictures and tables.")
         .version("1.0")
         .subcommand_required(true)
-        .arg_required_else_help(true);
-    for row in rows {
-        whole = whole.subcommand(command_of(alloc, row)?)?;
+        .arg_required_else_help(true)
+        .no_binary_name(true)
+}
+
+// A command line with one command more, where there was memory for that.
+fn with_command<'a>(
+    line: Command<'a>,
+    command: Result<Command<'a>, AllocError>,
+) -> Result<Command<'a>, AllocError> {
+    line.subcommand(command?)
+}
+
+// The whole command line.
+fn whole_line<'a>(alloc: Global) -> Result<Command<'a>, AllocError> {
+    let mut line = bare_line(alloc);
+    for row in commands() {
+        line = with_command(line, command_of(alloc, row))?;
     }
-    Ok(whole)
+    Ok(line)
 }
 
 /// What the words say.
 pub fn parse_words<'a>(alloc: Global, words: &'a [String]) -> Result<ArgMatches<'a>, clap::Error> {
-    command_line(alloc, &COMMANDS)?
-        .no_binary_name(true)
-        .try_get_matches_from(words)
+    whole_line(alloc)?.try_get_matches_from(words)
 }

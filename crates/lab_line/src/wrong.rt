@@ -1,8 +1,5 @@
 //! What is wrong with a command line that is refused, by the table of commands.
-use crate::table::{
-    CERTIFICATE_NAME, COMMANDS, CommandRow, FILE_NAME, IMAGE_NAME, LABEL_NAME, Names, OUTPUT,
-    OptionRow, PRINT, SOURCE_NAME, Takes,
-};
+use crate::table::{ArgumentName, CommandName, PRINT_NAME, Takes, command_named, commands};
 use lab_slips::nearest;
 use lab_writer::Writer;
 use std::alloc::{AllocError, Global};
@@ -14,15 +11,14 @@ enum Wrong<'a> {
     Command(&'a str),
     Option(&'a str),
     Argument(&'a str),
-    // An argument with this name is missing.
-    Missing(&'static str),
-    // An option is missing.
-    MissingOption(OptionRow),
+    // A positional argument or an option is missing.
+    Missing(ArgumentName),
+    MissingOption(ArgumentName),
     // An option has no value, or this one, which it cannot have.
-    NoValue(OptionRow),
-    Value(OptionRow, &'a str),
+    NoValue(ArgumentName),
+    Value(ArgumentName, &'a str),
     // An option takes no value.
-    Flag(OptionRow),
+    Flag(ArgumentName),
     // An option comes twice.
     Twice(&'a str),
     // A plan file is named and printed.
@@ -57,7 +53,7 @@ fn output_given<'a>(rest: &'a str) -> Given<'a> {
         None => rest,
     };
     Given {
-        name: OUTPUT.name,
+        name: ArgumentName::Output.name(),
         value: if rest.is_empty() { None } else { Some(value) },
     }
 }
@@ -79,24 +75,14 @@ fn option_in<'a>(word: &'a str) -> Option<Given<'a>> {
     None
 }
 
-// The row of an option in a list.
-fn row_in(rows: &[OptionRow], name: &str) -> Option<OptionRow> {
-    for row in rows {
-        if row.name == name {
-            return Some(*row);
+// The option of this name among some arguments.
+fn option_of(arguments: &[ArgumentName], name: &str) -> Option<ArgumentName> {
+    for argument in arguments {
+        if argument.name() == name && !argument.takes().is_positional() {
+            return Some(*argument);
         }
     }
     None
-}
-
-// The row of an option of a command.
-fn row_of(command: &CommandRow, name: &str) -> Option<OptionRow> {
-    match command.names {
-        Names::Plans if name == PRINT.name => Some(PRINT),
-        Names::Image if name == OUTPUT.name => None,
-        _ if name == OUTPUT.name => Some(OUTPUT),
-        _ => row_in(command.options, name),
-    }
 }
 
 // A text is a number of a range.
@@ -118,129 +104,125 @@ fn is_among(words: &[&str], text: &str) -> bool {
 }
 
 // An option may have a value.
-fn takes_value(row: &OptionRow, value: &str) -> bool {
-    match row.takes {
-        Takes::Nothing => false,
+fn takes_value(takes: Takes, value: &str) -> bool {
+    match takes {
+        Takes::Number { least, most } => is_number(value, least, most),
+        Takes::Word { choice, .. } => is_among(choice.words(), value),
         Takes::File | Takes::NeededFile | Takes::NamedFile => true,
-        Takes::Number { least, most, .. } => is_number(value, least, most),
-        Takes::Word { words, .. } => is_among(words, value),
+        Takes::Nothing | Takes::Positional { .. } | Takes::Positionals => false,
     }
 }
 
-// The words of a command line, as far as they were looked at: how many arguments there were, and the option whose value comes next.
+// The words of a command line, as far as they were looked at: the arguments that its command may have, how many positional ones
+// there were, and the option whose value comes next.
 #[derive(Clone, Copy)]
-struct Walk<'a> {
-    command: &'a CommandRow,
-    arguments: usize,
-    pending: Option<OptionRow>,
+struct Walk {
+    arguments: &'static [ArgumentName],
+    positionals: usize,
+    pending: Option<ArgumentName>,
     has_options: bool,
     is_printed: bool,
 }
 
-impl<'a> Walk<'a> {
+impl Walk {
     // Takes an option.
-    fn take_option(&mut self, word: &'a str, given: Given<'a>) -> Option<Wrong<'a>> {
-        let Some(row) = row_of(self.command, given.name) else {
+    fn take_option<'a>(&mut self, word: &'a str, given: Given<'a>) -> Option<Wrong<'a>> {
+        let Some(option) = option_of(self.arguments, given.name) else {
             return Some(Wrong::Option(word));
         };
-        self.is_printed = self.is_printed || row.name == PRINT.name;
-        match (row.takes, given.value) {
-            (Takes::Nothing, Some(_)) => return Some(Wrong::Flag(row)),
-            (_, Some(value)) if !takes_value(&row, value) => return Some(Wrong::Value(row, value)),
-            (Takes::Nothing, None) | (_, Some(_)) => {}
-            (_, None) => self.pending = Some(row),
+        self.is_printed = self.is_printed || matches!(option, ArgumentName::Print);
+        match (option.takes(), given.value) {
+            (Takes::Nothing, None) => None,
+            (Takes::Nothing, Some(_)) => Some(Wrong::Flag(option)),
+            (takes, Some(value)) if takes_value(takes, value) => None,
+            (_, Some(value)) => Some(Wrong::Value(option, value)),
+            (_, None) => {
+                self.pending = Some(option);
+                None
+            }
         }
-        None
     }
 
-    // Takes an argument.
-    fn take_argument(&mut self, word: &'a str) -> Option<Wrong<'a>> {
-        self.arguments = self.arguments.saturating_add(1);
-        if self.arguments > most_arguments(self.command) {
+    // Takes a positional argument.
+    fn take_positional<'a>(&mut self, word: &'a str) -> Option<Wrong<'a>> {
+        if !takes_positional(self.arguments, self.positionals) {
             return Some(Wrong::Argument(word));
         }
+        self.positionals = self.positionals.saturating_add(1);
         None
     }
 
-    // Takes a word where an option or an argument may come.
-    fn take_any(&mut self, word: &'a str) -> Option<Wrong<'a>> {
+    // Takes a word where an option or a positional argument may come.
+    fn take_any<'a>(&mut self, word: &'a str) -> Option<Wrong<'a>> {
         if self.has_options && word == "--" {
             self.has_options = false;
             return None;
         }
         match option_in(word) {
             Some(given) if self.has_options => self.take_option(word, given),
-            _ => self.take_argument(word),
+            _ => self.take_positional(word),
         }
     }
 
     // Takes the next word.
-    fn take(&mut self, word: &'a str) -> Option<Wrong<'a>> {
+    fn take<'a>(&mut self, word: &'a str) -> Option<Wrong<'a>> {
         match self.pending {
-            Some(row) => {
+            Some(option) => {
                 self.pending = None;
-                wrong_value(row, word)
+                wrong_value(option, word)
             }
             None => self.take_any(word),
         }
     }
 
     // What is wrong once all words were taken.
-    fn ends(&self) -> Option<Wrong<'a>> {
-        if let Some(row) = self.pending {
-            return Some(Wrong::NoValue(row));
+    fn ends<'a>(&self) -> Option<Wrong<'a>> {
+        match (
+            self.pending,
+            positional_at(self.arguments, self.positionals),
+        ) {
+            (Some(option), _) => Some(Wrong::NoValue(option)),
+            (None, Some(ArgumentName::PlansFile)) if self.is_printed => None,
+            (None, Some(argument)) => Some(Wrong::Missing(argument)),
+            (None, None) if self.is_printed => Some(Wrong::PrintedFile),
+            (None, None) => None,
         }
-        if let Some(name) = missing(self.command, self.arguments, self.is_printed) {
-            return Some(Wrong::Missing(name));
-        }
-        if self.is_printed && self.arguments > 1 {
-            return Some(Wrong::PrintedFile);
-        }
-        None
     }
 }
 
 // What is wrong with the word after an option.
-fn wrong_value<'a>(row: OptionRow, word: &'a str) -> Option<Wrong<'a>> {
-    let is_number = matches!(row.takes, Takes::Number { .. });
+fn wrong_value<'a>(option: ArgumentName, word: &'a str) -> Option<Wrong<'a>> {
+    let takes = option.takes();
+    let is_number = matches!(takes, Takes::Number { .. });
     match option_in(word) {
-        Some(given) if !is_number || !given.name.is_empty() => Some(Wrong::NoValue(row)),
-        _ if takes_value(&row, word) => None,
-        _ => Some(Wrong::Value(row, word)),
+        Some(given) if !is_number || !given.name.is_empty() => Some(Wrong::NoValue(option)),
+        _ if takes_value(takes, word) => None,
+        _ => Some(Wrong::Value(option, word)),
     }
 }
 
-// How many arguments a command has at most.
-fn most_arguments(command: &CommandRow) -> usize {
-    match command.names {
-        Names::Source | Names::File => 1,
-        Names::Plans | Names::Image | Names::Label => 2,
-        Names::Certified => 3,
-        Names::Sources => usize::MAX,
-    }
-}
-
-// The first argument of a command that is missing where there are so many.
-fn missing(command: &CommandRow, arguments: usize, is_printed: bool) -> Option<&'static str> {
-    match (command.names, arguments) {
-        (Names::File, 0) => Some(FILE_NAME),
-        (_, 0) => Some(SOURCE_NAME),
-        (Names::Plans, 1) if !is_printed => Some(FILE_NAME),
-        (Names::Certified | Names::Image, 1) => Some(IMAGE_NAME),
-        (Names::Label, 1) => Some(LABEL_NAME),
-        (Names::Certified, 2) => Some(CERTIFICATE_NAME),
+// The positional argument of this number among some arguments, of which the positional ones come first.
+fn positional_at(arguments: &[ArgumentName], at: usize) -> Option<ArgumentName> {
+    match arguments.get(at) {
+        Some(argument) if argument.takes().is_positional() => Some(*argument),
         _ => None,
     }
 }
 
+// There may be a positional argument of this number.
+fn takes_positional(arguments: &[ArgumentName], at: usize) -> bool {
+    positional_at(arguments, at).is_some()
+        || matches!(arguments.first(), Some(ArgumentName::Sources))
+}
+
 // The first option that comes again, and may not.
-fn repeated<'a>(command: &CommandRow, words: &'a [String]) -> Option<Wrong<'a>> {
+fn repeated<'a>(arguments: &[ArgumentName], words: &'a [String]) -> Option<Wrong<'a>> {
     let mut rest = words;
     for _ in 0..words.len() {
         let [first, others @ ..] = rest else {
             return None;
         };
-        if is_repeated(command, first.as_str(), others) {
+        if is_repeated(arguments, first.as_str(), others) {
             return Some(Wrong::Twice(first.as_str()));
         }
         rest = others;
@@ -248,20 +230,20 @@ fn repeated<'a>(command: &CommandRow, words: &'a [String]) -> Option<Wrong<'a>> 
     None
 }
 
-// An option of a command may come several times.
-fn may_repeat(command: &CommandRow, name: &str) -> bool {
-    match row_of(command, name) {
-        Some(row) => matches!(row.takes, Takes::NamedFile),
+// An option may come several times.
+fn may_repeat(arguments: &[ArgumentName], name: &str) -> bool {
+    match option_of(arguments, name) {
+        Some(option) => matches!(option.takes(), Takes::NamedFile),
         None => false,
     }
 }
 
 // A word is an option that comes again among others, and may not.
-fn is_repeated(command: &CommandRow, word: &str, others: &[String]) -> bool {
+fn is_repeated(arguments: &[ArgumentName], word: &str, others: &[String]) -> bool {
     let Some(given) = option_in(word) else {
         return false;
     };
-    if may_repeat(command, given.name) {
+    if may_repeat(arguments, given.name) {
         return false;
     }
     for other in others {
@@ -273,11 +255,11 @@ fn is_repeated(command: &CommandRow, word: &str, others: &[String]) -> bool {
     false
 }
 
-// What is wrong with the words after a command.
-fn wrong_after<'a>(command: &'a CommandRow, words: &'a [String]) -> Option<Wrong<'a>> {
+// What is wrong with the words after a command that may have these arguments.
+fn wrong_after<'a>(arguments: &'static [ArgumentName], words: &'a [String]) -> Option<Wrong<'a>> {
     let mut walk = Walk {
-        command,
-        arguments: 0,
+        arguments,
+        positionals: 0,
         pending: None,
         has_options: true,
         is_printed: false,
@@ -289,27 +271,24 @@ fn wrong_after<'a>(command: &'a CommandRow, words: &'a [String]) -> Option<Wrong
         }
     }
     match walk.ends() {
-        None => wrong_options(command, words),
+        None => wrong_options(arguments, words),
         wrong => wrong,
     }
 }
 
 // The first option that comes again, or else the one that has to be there and is not.
-fn wrong_options<'a>(command: &CommandRow, words: &'a [String]) -> Option<Wrong<'a>> {
-    match repeated(command, words) {
-        None => match left_out(command, words) {
-            Some(row) => Some(Wrong::MissingOption(row)),
-            None => None,
-        },
-        wrong => wrong,
+fn wrong_options<'a>(arguments: &[ArgumentName], words: &'a [String]) -> Option<Wrong<'a>> {
+    match (repeated(arguments, words), left_out(arguments, words)) {
+        (None, Some(option)) => Some(Wrong::MissingOption(option)),
+        (wrong, _) => wrong,
     }
 }
 
-// The first option of a command that has to be there, and is none of the words.
-fn left_out(command: &CommandRow, words: &[String]) -> Option<OptionRow> {
-    for row in command.options {
-        if matches!(row.takes, Takes::NeededFile) && !is_named(row.name, words) {
-            return Some(*row);
+// The first option that has to be there, and is none of the words.
+fn left_out(arguments: &[ArgumentName], words: &[String]) -> Option<ArgumentName> {
+    for argument in arguments {
+        if matches!(argument.takes(), Takes::NeededFile) && !is_named(argument.name(), words) {
+            return Some(*argument);
         }
     }
     None
@@ -326,23 +305,13 @@ fn is_named(name: &str, words: &[String]) -> bool {
     false
 }
 
-// The row of a command in a table.
-fn command_row<'a>(rows: &'a [CommandRow], name: &str) -> Option<&'a CommandRow> {
-    for row in rows {
-        if row.name == name {
-            return Some(row);
-        }
-    }
-    None
-}
-
 // What is wrong with some words.
 fn wrong_in<'a>(words: &'a [String]) -> Option<Wrong<'a>> {
     let [name, rest @ ..] = words else {
         return None;
     };
-    match command_row(&COMMANDS, name.as_str()) {
-        Some(command) => wrong_after(command, rest),
+    match command_named(name.as_str()) {
+        Some(command) => wrong_after(command.arguments(), rest),
         None => Some(unknown(name.as_str(), rest)),
     }
 }
@@ -395,39 +364,36 @@ fn push_choice(text: &mut Writer, words: &[&str]) {
     }
 }
 
+// Appends the range of a number.
+fn push_range(text: &mut Writer, least: i64, most: i64) {
+    push_grouped(text, u64::try_from(least).unwrap_or(0));
+    text.push_str(" to ");
+    push_grouped(text, u64::try_from(most).unwrap_or(0));
+}
+
 // Appends what was expected as the value of an option.
-fn push_expected(text: &mut Writer, row: &OptionRow) {
+fn push_expected(text: &mut Writer, takes: Takes) {
     text.push_str(": expected ");
-    match row.takes {
+    match takes {
+        Takes::Number { least, most } => push_range(text, least, most),
+        Takes::Word { choice, .. } => push_choice(text, choice.words()),
         Takes::Nothing => text.push_str("no value"),
-        Takes::File | Takes::NeededFile => text.push_str("a file"),
         Takes::NamedFile => text.push_str("NAME=FILE"),
-        Takes::Number { least, most, .. } => {
-            push_grouped(text, u64::try_from(least).unwrap_or(0));
-            text.push_str(" to ");
-            push_grouped(text, u64::try_from(most).unwrap_or(0));
-        }
-        Takes::Word { words, .. } => push_choice(text, words),
+        _ => text.push_str("a file"),
     }
 }
 
 // Appends the value of an option that it cannot have, and what was expected.
-fn push_value(text: &mut Writer, row: &OptionRow, value: &str) {
+fn push_value(text: &mut Writer, option: ArgumentName, value: &str) {
     text.push_parts(&["invalid value '", value, "'"]);
-    text.push_parts(&[" for '--", row.name, "'"]);
-    push_expected(text, row);
+    text.push_parts(&[" for '--", option.name(), "'"]);
+    push_expected(text, option.takes());
 }
 
-// Appends that an option has no value, and what was expected.
-fn push_no_value(text: &mut Writer, row: &OptionRow) {
-    text.push_parts(&["missing value for '--", row.name, "'"]);
-    push_expected(text, row);
-}
-
-// Appends that an option is missing, and what was expected.
-fn push_no_option(text: &mut Writer, row: &OptionRow) {
-    text.push_parts(&["missing option '--", row.name, "'"]);
-    push_expected(text, row);
+// Appends what is missing of an option, and what was expected.
+fn push_missing(text: &mut Writer, missing: &'static str, option: ArgumentName) {
+    text.push_parts(&[missing, option.name(), "'"]);
+    push_expected(text, option.takes());
 }
 
 // Appends what is wrong.
@@ -437,11 +403,11 @@ fn push_wrong(text: &mut Writer, wrong: Wrong) {
         Wrong::Option(word) | Wrong::Argument(word) => {
             text.push_parts(&["unexpected argument '", word, "'"]);
         }
-        Wrong::Missing(name) => text.push_parts(&["missing argument ", name]),
-        Wrong::MissingOption(row) => push_no_option(text, &row),
-        Wrong::NoValue(row) => push_no_value(text, &row),
-        Wrong::Value(row, value) => push_value(text, &row, value),
-        Wrong::Flag(row) => text.push_parts(&["'--", row.name, "' takes no value"]),
+        Wrong::Missing(argument) => text.push_parts(&["missing argument ", argument.name()]),
+        Wrong::MissingOption(option) => push_missing(text, "missing option '--", option),
+        Wrong::NoValue(option) => push_missing(text, "missing value for '--", option),
+        Wrong::Value(option, value) => push_value(text, option, value),
+        Wrong::Flag(option) => text.push_parts(&["'--", option.name(), "' takes no value"]),
         Wrong::Twice(word) => text.push_parts(&["repeated option '", word, "'"]),
         Wrong::PrintedFile => text.push_str("unexpected argument FILE: '--print' writes one"),
     }
@@ -450,20 +416,22 @@ fn push_wrong(text: &mut Writer, wrong: Wrong) {
 // The names of the commands.
 fn command_names(alloc: Global) -> Result<Vec<&'static str>, AllocError> {
     let mut names = Vec::new(alloc);
-    for row in &COMMANDS {
-        names.push(row.name)?;
+    for row in commands() {
+        names.push(row.word)?;
     }
     Ok(names)
 }
 
-// The names of the options of a command.
-fn option_names(alloc: Global, command: &CommandRow) -> Result<Vec<&'static str>, AllocError> {
+// The names of the options among some arguments, but for the flag that asks for a plan file.
+fn option_names(
+    alloc: Global,
+    arguments: &[ArgumentName],
+) -> Result<Vec<&'static str>, AllocError> {
     let mut names = Vec::new(alloc);
-    for row in command.options {
-        names.push(row.name)?;
-    }
-    if !matches!(command.names, Names::Image) {
-        names.push(OUTPUT.name)?;
+    for argument in arguments {
+        if !argument.takes().is_positional() && argument.name() != PRINT_NAME {
+            names.push(argument.name())?;
+        }
     }
     Ok(names)
 }
@@ -477,57 +445,57 @@ fn command_like(alloc: Global, name: &str) -> Result<Option<&'static str>, Alloc
 // The option of a command that is nearest to a word, if one is near.
 fn option_like(
     alloc: Global,
-    command: &str,
+    command: CommandName,
     word: &str,
 ) -> Result<Option<&'static str>, AllocError> {
-    let (Some(row), Some(given)) = (command_row(&COMMANDS, command), option_in(word)) else {
+    let Some(given) = option_in(word) else {
         return Ok(None);
     };
-    let names = option_names(alloc, row)?;
+    let names = option_names(alloc, command.arguments())?;
     nearest(alloc, given.name, &names)
 }
 
-// What may have been meant: the hyphens before it, and its name.
+// What may have been meant by a word that is wrong, after a command, if there is one.
 fn meant(
     alloc: Global,
-    command: &str,
+    command: Option<CommandName>,
     wrong: Wrong,
-) -> Result<Option<(&'static str, &'static str)>, AllocError> {
-    let (hyphens, near) = match wrong {
-        Wrong::Command(name) => ("", command_like(alloc, name)?),
-        Wrong::Option(word) => ("--", option_like(alloc, command, word)?),
-        Wrong::Value(row, value) => ("", word_like(alloc, row, value)?),
-        _ => ("", None),
-    };
-    Ok(match near {
-        Some(name) => Some((hyphens, name)),
-        None => None,
-    })
-}
-
-// The word of an option that is nearest to another, if one is near.
-fn word_like(
-    alloc: Global,
-    row: OptionRow,
-    value: &str,
 ) -> Result<Option<&'static str>, AllocError> {
-    match row.takes {
-        Takes::Word { words, .. } => nearest(alloc, value, words),
+    match (wrong, command) {
+        (Wrong::Command(name), _) => command_like(alloc, name),
+        (Wrong::Option(word), Some(command)) => option_like(alloc, command, word),
+        (Wrong::Value(option, value), _) => word_like(alloc, option.takes(), value),
         _ => Ok(None),
     }
 }
 
+// The word of an option that is nearest to another, if one is near.
+fn word_like(alloc: Global, takes: Takes, value: &str) -> Result<Option<&'static str>, AllocError> {
+    match takes {
+        Takes::Word { choice, .. } => nearest(alloc, value, choice.words()),
+        _ => Ok(None),
+    }
+}
+
+// The hyphens of what may have been meant.
+fn hyphens_of(wrong: Wrong) -> &'static str {
+    match wrong {
+        Wrong::Option(_) => "--",
+        _ => "",
+    }
+}
+
 // Appends what may have been meant, where something is near.
-fn push_meant(text: &mut Writer, command: &str, wrong: Wrong) {
-    if let Some(Some((hyphens, name))) = text.take(meant(text.alloc(), command, wrong)) {
-        text.push_parts(&["; did you mean '", hyphens, name, "'?"]);
+fn push_meant(text: &mut Writer, command: Option<CommandName>, wrong: Wrong) {
+    if let Some(Some(name)) = text.take(meant(text.alloc(), command, wrong)) {
+        text.push_parts(&["; did you mean '", hyphens_of(wrong), name, "'?"]);
     }
 }
 
 // Appends where help is: that of a command, if there is one with this name.
 fn push_help(text: &mut Writer, caller: &str, command: &str) {
     text.push_parts(&["\n    hint: ", caller, " "]);
-    if command_row(&COMMANDS, command).is_some() {
+    if command_named(command).is_some() {
         text.push_parts(&[command, " --help lists its arguments\n"]);
     } else {
         text.push_str("--help lists the commands\n");
@@ -546,7 +514,7 @@ pub fn usage_text(alloc: Global, caller: &str, words: &[String]) -> Result<Vec<u
     match wrong_in(words) {
         Some(wrong) => {
             push_wrong(&mut text, wrong);
-            push_meant(&mut text, command, wrong);
+            push_meant(&mut text, command_named(command), wrong);
         }
         None => text.push_str("invalid arguments"),
     }

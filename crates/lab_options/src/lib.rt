@@ -6,7 +6,7 @@ mod named;
 mod options;
 
 pub use arguments::{ArgumentFault, MOST_RUNS};
-pub use named::{WordRow, file_by, meant_by};
+pub use named::{WordRow, file_by, meaning_in, meant_by};
 pub use options::{
     BuildOptions, CachesOptions, CheckForm, CheckOptions, CompareOptions, DebugOptions,
     DisassembleOptions, DrawOptions, Form, LabCommand, Part, PlansOf, PlansOptions, ProfileOptions,

@@ -1,5 +1,5 @@
 //! Words of arguments, and what they stand for.
-ghost use Rattle.std.specs.Prelude.{◌≡◌, codes, find, if◌then◌else◌};
+ghost use Rattle.std.specs.Prelude.{◌≡◌, codes, find, option_map, if◌then◌else◌};
 ghost use Rattle.std.specs.Option.{option_map_or};
 ghost use Rattle.std.specs.Str.{bytes_eq};
 
@@ -8,23 +8,33 @@ const STANDARD_INPUT: &str = "-";
 
 const STANDARD_INPUT_FILE: &str = "/dev/stdin";
 
-/// A word of an option, and what it stands for.
+/// A word, and what it stands for.
 #[derive(Clone, Copy)]
 pub struct WordRow<T> {
     pub word: &'static str,
     pub means: T,
 }
 
+/// What a word stands for, if it is in one of the rows.
+pub fn meaning_in<T: Copy>(rows: &[WordRow<T>], word: &str) -> Option<T>
+    ensures { result ≡ option_map (λ row. row.means) (find (λ row. bytes_eq row.word.now word.now) rows.now) }
+{
+    for row in rows {
+        if row.word == word {
+            return Some(row.means);
+        }
+    }
+    None
+}
+
 /// What a word stands for; `other`, where it is in none of the rows.
 pub fn meant_by<T: Copy>(rows: &[WordRow<T>], word: &str, other: T) -> T
     ensures { result ≡ option_map_or (λ row. row.means) (find (λ row. bytes_eq row.word.now word.now) rows.now) other }
 {
-    for row in rows {
-        if row.word == word {
-            return row.means;
-        }
+    match meaning_in(rows, word) {
+        Some(means) => means,
+        None => other,
     }
-    other
 }
 
 /// The file that an argument names: `-` is standard input.

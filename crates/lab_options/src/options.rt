@@ -1,4 +1,6 @@
 //! What the arguments of each command say.
+ghost use Rattle.std.specs.Prelude.{◌≡◌};
+ghost use Rattle.lab_options.specs.Planned.{IsInPlaceOf};
 
 /// A form of what is printed.
 #[derive(Clone, Copy)]
@@ -46,6 +48,18 @@ pub enum PlansOf<'w> {
     File(&'w str),
 }
 
+impl<'w> PlansOf<'w> {
+    /// The plans of a file, or of a scheduler where no file is named.
+    pub fn file_or(file: Option<&'w str>, scheduler: Scheduler) -> PlansOf<'w>
+        ensures { IsInPlaceOf scheduler result }
+    {
+        match file {
+            Some(name) => PlansOf::File(name),
+            None => PlansOf::Scheduler(scheduler),
+        }
+    }
+}
+
 /// The names of the files that come to a run from outside: its interrupt requests and its input.
 #[derive(Clone, Copy)]
 pub struct StimulusNames<'w> {
@@ -61,6 +75,26 @@ pub struct RunOptions<'w> {
     pub stimulus: StimulusNames<'w>,
     pub budget: u32,
     pub form: Form,
+}
+
+impl<'w> RunOptions<'w> {
+    /// The run of a source as `run` links it.
+    pub fn copied(
+        source: &'w str,
+        stimulus: StimulusNames<'w>,
+        budget: u32,
+        form: Form,
+    ) -> RunOptions<'w>
+        ensures { result.plans ≡ PlansOf.Scheduler Scheduler.Copies }
+    {
+        RunOptions {
+            source,
+            plans: PlansOf::Scheduler(Scheduler::Copies),
+            stimulus,
+            budget,
+            form,
+        }
+    }
 }
 
 /// The cycles of a run that are drawn: the first one, and how many.

@@ -179,8 +179,7 @@ fn read_lines<'w, S: Shelf>(
     shelf: &mut S,
     source: &Source,
     notes: &mut Vec<u8>,
-) -> Result<Vec<PlanLine>, LabFailure<'w>>
-{
+) -> Result<Vec<PlanLine>, LabFailure<'w>> {
     let lines = plans_of(alloc, shelf, source, options.plans)?;
     note_rejected(alloc, options.source, source, lines.as_slice(), notes)?;
     Ok(lines)
@@ -234,8 +233,7 @@ pub fn debug_reply<'w, S: Shelf>(
     options: &DebugOptions<'w>,
     shelf: &mut S,
     notes: &mut Vec<u8>,
-) -> Result<Reply, LabFailure<'w>>
-{
+) -> Result<Reply, LabFailure<'w>> {
     let source = read_source(alloc, shelf, options.source)?;
     match statement_named(&source, options.label) {
         Some(index) => {

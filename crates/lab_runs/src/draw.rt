@@ -130,8 +130,7 @@ pub fn draw_reply<'w, S: Shelf, W: Watcher>(
     shelf: &mut S,
     watcher: W,
     notes: &mut Vec<u8>,
-) -> Result<Reply, LabFailure<'w>>
-{
+) -> Result<Reply, LabFailure<'w>> {
     let run = noted_run(alloc, shelf, &options.run, notes)?;
     let reply = printed(Status::Done, picture_of(alloc, options, &run, watcher))?;
     Ok(reply)

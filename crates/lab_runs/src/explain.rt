@@ -79,8 +79,7 @@ fn run_reply<'w, W: Watcher>(
     options: &RunOptions<'w>,
     run: &GivenRun,
     watcher: W,
-) -> Result<Reply, LabFailure<'w>>
-{
+) -> Result<Reply, LabFailure<'w>> {
     let steps = run.budget.saturating_add(STATEMENTS_AHEAD);
     let input = run.stimulus.input.as_slice();
     let standing = stand(alloc, &run.program.source, input, steps)?;
@@ -97,8 +96,7 @@ pub fn explain_reply<'w, S: Shelf, W: Watcher>(
     shelf: &mut S,
     watcher: W,
     notes: &mut Vec<u8>,
-) -> Result<Reply, LabFailure<'w>>
-{
+) -> Result<Reply, LabFailure<'w>> {
     let run = noted_run(alloc, shelf, options, notes)?;
     let reply = run_reply(alloc, options, &run, watcher)?;
     Ok(reply)

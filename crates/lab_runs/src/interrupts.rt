@@ -96,8 +96,7 @@ fn rows_of<W: Watcher>(
     sought: &Sought,
     cycles: &[u32],
     watcher: W,
-) -> Result<Vec<Row>, Memory>
-{
+) -> Result<Vec<Row>, Memory> {
     let swept = Swept {
         image: &run.program.linked.image,
         input: run.asked_input(),

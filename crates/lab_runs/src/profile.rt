@@ -94,8 +94,7 @@ pub fn profile_reply<'w, S: Shelf, W: Watcher>(
     shelf: &mut S,
     watcher: W,
     notes: &mut Vec<u8>,
-) -> Result<Reply, LabFailure<'w>>
-{
+) -> Result<Reply, LabFailure<'w>> {
     let run = noted_run(alloc, shelf, &options.run, notes)?;
     let profile = profile_in(alloc, &run, watcher)?;
     let text = text_of(alloc, options, &run, &profile, watcher);
