@@ -82,14 +82,10 @@ pub fn build_reply<'w, S: Shelf>(
     options: &BuildOptions<'w>,
     shelf: &mut S,
     notes: &mut Vec<u8>,
-<<<<<<< HEAD
 ) -> Result<Reply, LabFailure<'w>>
     ensures { IfOk result (λ r. IsBuildOf (S.told shelf.old) options.now (S.counts shelf.old) (S.counts shelf.new)
         notes.old.items notes.new.items (reply_answer r)) }
 {
-=======
-) -> Result<Reply, LabFailure<'w>> {
->>>>>>> main
     let source = read_source(alloc, shelf, options.source)?;
     let lines = plans_of(alloc, shelf, &source, options.plans)?;
     let reply = built_reply(alloc, options, &source, lines.as_slice(), notes)?;

@@ -49,16 +49,12 @@ pub fn plans_of<'w, S: Shelf>(
     shelf: &mut S,
     source: &Source,
     name: &'w str,
-<<<<<<< HEAD
 ) -> Result<Vec<PlanLine>, LabFailure<'w>>
     ensures read { IfOk result (λ lines. ArePlansOf (S.told shelf.old) name.entry.now source.now (S.counts shelf.old) (S.counts shelf.new)
         (lines_said lines.items)) }
     ensures told_stays { S.told shelf.new ≡ S.told shelf.old }
     ensures writes_stay { S.write_faults shelf.new ≡ S.write_faults shelf.old }
 {
-=======
-) -> Result<Vec<PlanLine>, LabFailure<'w>> {
->>>>>>> main
     let text = read_lab_file(alloc, shelf, LabFile::Plans, name)?;
     let lines = parse_plans(alloc, source, name, text.as_slice())?;
     Ok(lines)

@@ -49,16 +49,12 @@ pub fn read_source<'w, S: Shelf>(
     alloc: Global,
     shelf: &mut S,
     name: &'w str,
-<<<<<<< HEAD
 ) -> Result<Source, LabFailure<'w>>
     ensures read { IfOk result (λ source. (text : List ℕ)
         × IsSourceOf (S.told shelf.old) name.entry.now (S.counts shelf.old) (S.counts shelf.new) text source) }
     ensures told_stays { S.told shelf.new ≡ S.told shelf.old }
     ensures writes_stay { S.write_faults shelf.new ≡ S.write_faults shelf.old }
 {
-=======
-) -> Result<Source, LabFailure<'w>> {
->>>>>>> main
     let text = read_lab_file(alloc, shelf, LabFile::Source, name)?;
     let source = assembled(alloc, name, text.as_slice())?;
     Ok(source)
