@@ -1,3 +1,3 @@
 pub mod Links
 pub mod TooFar
-pub mod Runs
+pub mod Asked

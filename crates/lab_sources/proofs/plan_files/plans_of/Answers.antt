@@ -10,6 +10,6 @@ returns-clause-read g c =
       text = c.in_ok-text.text.items;
       read = c.in_ok-text.ensures.read;
       blocks = k.0;
-      are = k.1.0;
-      spelled = subst (λ (t : List ℕ). plans_in (length k.0) t ≡ Ok (lines_said c.in_ok-lines.lines.items)) c.as_slice.ensures.value k.1.1;
+      are = k.1;
+      spelled = subst (λ (t : List ℕ). plans_in (length k.0) t ≡ Ok (lines_said c.in_ok-lines.lines.items)) c.as_slice.ensures.value k.2;
     }

@@ -10,7 +10,7 @@ pub returns-clause-read : goal.returns-clause-read
 returns-clause-read g c =
     let told : Told = g.S.Shelf.told c.args.shelf.now in
     let before : Counts = g.S.Shelf.counts c.args.shelf.now in
-    let after : Counts = g.S.Shelf.counts c.read_lab_file-text.new.shelf in
+    let after : Counts = g.S.Shelf.counts c.read_lab_file.new.shelf in
     let p = c.in_ok-program.program in
     let same = sym (ap (λ v. v.items) c.in_ok-program.ensures.text.0) in
     record {

@@ -9,12 +9,12 @@ use Rattle.lab_sources.proofs.stimulus_files.read_stimulus.Goals as goal
 
 pub returns-clause-given : goal.returns-clause-given
 returns-clause-given g c =
-    let between : Counts = g.S.Shelf.counts c.read_if-cycles.new.shelf in
-    let after : Counts = g.S.Shelf.counts c.read_if-input.new.shelf in
+    let between : Counts = g.S.Shelf.counts c.read_if.new.shelf in
+    let after : Counts = g.S.Shelf.counts c.read_if-2.new.shelf in
     record {
       between = between;
       read = c.in_ok-cycles.ensures.read;
       spelled = subst (λ (b : List ℕ). requests_of b ≡ Ok c.in_ok-requests.requests) c.as_slice.ensures.value c.in_ok-requests.ensures;
       input_read = subst (λ (t : Told). IsReadIf t Input (option_map (λ s. s.now) c.args.names.input) c.in_ok-input.input.items between after)
-          c.read_if-cycles.ensures.told_stays c.in_ok-input.ensures.read;
+          c.in_ok-cycles.ensures.told_stays c.in_ok-input.ensures.read;
     }

@@ -54,10 +54,10 @@ module _ {told told_read told_planned : Told} {options : RunOptions} {before rea
         (subst (λ (t : List ℕ). IsSourceOf told options.source.now before read t program.source) text k.source);
     asked = subst (λ (t : Told). IsAskedFor t options.plans run.program.source read planned run.by) k.first_tells
         (subst (λ (s : SourceValue). IsAskedFor told_read options.plans s read planned run.by) source
-        (subst (λ (b : Planner). IsAskedFor told_read options.plans program.source read planned b) (sym k.parts.1.0) k.asked));
-    linked = subst (λ (b : Planner). IsLinkedAs b run.program) (sym k.parts.1.0)
+        (subst (λ (b : Planner). IsAskedFor told_read options.plans program.source read planned b) (sym k.parts.1) k.asked));
+    linked = subst (λ (b : Planner). IsLinkedAs b run.program) (sym k.parts.1)
         (subst (λ (p : Program). IsLinkedAs made.by p) (sym k.parts.0) k.linked);
     stimulus = subst (λ (t : Told). AreGiven t (option_map (λ s. s.now) options.stimulus.interrupts) (option_map (λ s. s.now) options.stimulus.input)
         planned after run.stimulus) k.then_tells k.given;
-    budget = k.parts.1.1;
+    budget = k.parts.2;
   }
