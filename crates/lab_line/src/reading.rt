@@ -144,7 +144,7 @@ fn disassemble_options<'w>(matches: &ArgMatches<'w>) -> DisassembleOptions<'w> {
 
 // The plan file that `plans` runs, unless it prints one.
 fn plans_run<'w>(matches: &ArgMatches<'w>) -> Option<&'w str> {
-    if flag_of(matches, ArgumentName::Print) {
+    if flag_of(matches, ArgumentName::PrintFlag) {
         None
     } else {
         Some(word_of(matches, ArgumentName::PlansFile))

@@ -194,7 +194,7 @@ pub(crate) enum ArgumentName {
     Stops,
     Watch,
     Output,
-    Print,
+    PrintFlag,
 }
 
 // What is known of the arguments, in the order of their names above.
@@ -671,7 +671,7 @@ static TRACE: [ArgumentName; 8] = [
 static PLANS: [ArgumentName; 7] = [
     ArgumentName::Source,
     ArgumentName::PlansFile,
-    ArgumentName::Print,
+    ArgumentName::PrintFlag,
     ArgumentName::Budget,
     ArgumentName::Interrupts,
     ArgumentName::Input,

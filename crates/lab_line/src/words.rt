@@ -78,7 +78,7 @@ fn arg_of<'a>(alloc: Global, argument: ArgumentName) -> Result<Arg<'a>, AllocErr
     let arg = with_default(kind_arg(alloc, row), row.default);
     match argument {
         ArgumentName::PlansFile => arg.required_unless_present(PRINT_NAME),
-        ArgumentName::Print => arg.conflicts_with(FILE_NAME),
+        ArgumentName::PrintFlag => arg.conflicts_with(FILE_NAME),
         ArgumentName::Output => Ok(arg.short('o')),
         _ => Ok(arg),
     }

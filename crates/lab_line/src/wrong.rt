@@ -130,7 +130,7 @@ impl Walk {
         let Some(option) = option_of(self.arguments, given.name) else {
             return Some(Wrong::Option(word));
         };
-        self.is_printed = self.is_printed || matches!(option, ArgumentName::Print);
+        self.is_printed = self.is_printed || matches!(option, ArgumentName::PrintFlag);
         match (option.takes(), given.value) {
             (Takes::Nothing, None) => None,
             (Takes::Nothing, Some(_)) => Some(Wrong::Flag(option)),

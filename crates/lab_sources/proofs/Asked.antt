@@ -1,11 +1,12 @@
 -- A run is the one that was asked for: what its parts are, over plain variables.
-use Rattle.std.proofs.Common.{◌≡◌, ℕ, List, Option, sym, ap, ◌∙◌, subst}
+use Rattle.std.proofs.Common.{◌≡◌, ℕ, List, Result, Ok, Err, IfOk, sym, ap, ◌∙◌, subst}
 use Rattle.std.specs.Prelude.{option_map}
 use Rattle.mx_io.specs.Shelves.{Told, Counts}
 use Rattle.mx_source.specs.SourceValue.{SourceValue}
 use Rattle.mx_plans.specs.declared.PlanLine.{PlanLine}
 use Rattle.mx_plans.specs.Files.{LineSaid, lines_said}
 use Rattle.cmd_source.specs.declared.sources.Program.{Program}
+use Rattle.lab_failure.specs.declared.failure.LabFailure.{LabFailure}
 use Rattle.lab_options.specs.declared.options.RunOptions.{RunOptions}
 use Rattle.lab_sources.specs.declared.runs.GivenRun.{GivenRun}
 use Rattle.lab_sources.specs.declared.planners.Planner.{Planner}
@@ -16,6 +17,11 @@ use Rattle.lab_sources.specs.Planners.{IsLinkedAs, IsByLines, IsOfPlanFile, IsAs
 use Rattle.lab_sources.specs.Sources.{IsSourceOf}
 use Rattle.lab_sources.specs.Stimuli.{AreGiven}
 use Rattle.lab_sources.specs.Runs.{IsRunOf}
+
+-- what holds of a value
+pub weaker : {T : Type 0} (r : Result T LabFailure) (P Q : T → Type 0) → ((x : T) → P x → Q x) → IfOk r P → IfOk r Q
+weaker (Ok x) P Q more holds = more x holds
+weaker (Err failure) P Q more holds = tt
 
 -- plans with the lines of a plan file are those of the file
 pub by_lines :

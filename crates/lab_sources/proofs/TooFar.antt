@@ -1,5 +1,5 @@
 -- A source that is not linked is refused by its first branch that does not reach its target.
-use Rattle.std.proofs.Common.{◌≡◌, List, ℕ, sym, subst}
+use Rattle.std.proofs.Common.{List, ℕ, sym, subst}
 use Rattle.mx_isa.specs.Board.{board}
 use Rattle.mx_blocks.specs.declared.block.Block.{Block}
 use Rattle.mx_blocks.specs.declared.block.Plan.{Plan}

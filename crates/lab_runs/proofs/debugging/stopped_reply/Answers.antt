@@ -1,12 +1,16 @@
 -- The session is that of the linked program, stopped at the link of the statement.
-use Rattle.std.proofs.Common.{ℕ, suc, Bool, length, ap, ◌∙◌, subst, arith}
+use Rattle.std.proofs.Common.{ℕ, suc, Bool, length, ap, ◌∙◌, sym, subst, arith}
 use Rattle.std.specs.Prelude.{is_some}
 use Rattle.mx_isa.specs.Board.{board}
 use Rattle.mx_link.specs.Origins.{from_nowhere}
 use Rattle.mx_link.specs.Linked.{link_map}
+use Rattle.mx_plans.specs.Files.{lines_said}
 use Rattle.cmd_answer.specs.Replies.{reply_answer}
+use Rattle.lab_failure.specs.declared.failure.LabFailure.{LabFailure}
+use Rattle.lab_sources.specs.Refusals.{IsTooFar}
 use Rattle.lab_runs.specs.Sessions.{IsSessionOf}
 use Rattle.lab_sources.proofs.Links.{in_code, links_count, link_there}
+use Rattle.lab_runs.proofs.Failures.{fails}
 use Rattle.lab_runs.proofs.debugging.stopped_reply.Goals as goal
 
 pub link_at-address-requires : goal.link_at-address-requires
@@ -49,3 +53,14 @@ returns-clause-stopped c =
           (subst (λ (at : ℕ). IsSessionOf code user_data c.is_some-asks.result at stimulus.cycles.items stimulus.input.items limits answer) here
           c.in_ok-reply.ensures.answered);
     }
+
+pub returns-in_err-linked-clause-refused : goal.returns-in_err-linked-clause-refused
+returns-in_err-linked-clause-refused c =
+    fails c.from_residual.result c.in_err-linked.field-0.0 (IsTooFar c.args.name.now c.args.source.now (lines_said c.args.lines.now))
+    c.from_residual.ensures.1 c.in_err-linked.ensures.refused
+
+pub returns-in_err-reply-clause-refused : goal.returns-in_err-reply-clause-refused
+returns-in_err-reply-clause-refused c =
+    let far : LabFailure → Type 0 = IsTooFar c.args.name.now c.args.source.now (lines_said c.args.lines.now) in
+    fails c.from_residual-in_err-reply.result c.in_err-reply.field-0.0 far c.from_residual-in_err-reply.ensures.1
+    (subst far (sym c.in_err-reply.ensures.memory) tt)
