@@ -1,6 +1,7 @@
 -- What a command runs: a linked source, and what its run is given.
-use Rattle.std.specs.Prelude.{◌≡◌, ℕ, ◌≤◌, List, [], Option}
+use Rattle.std.specs.Prelude.{◌≡◌, ℕ, ◌≤◌, List, [], Option, option_map}
 use Rattle.mx_io.specs.declared.limits.TheConstants.{MAX_FILE_BYTES}
+use Rattle.mx_io.specs.Shelves.{Told, Counts}
 use Rattle.mx_board.specs.Contents.{bytes_in}
 use Rattle.mx_icache.specs.LineSets.{CacheHolds}
 use Rattle.mx_icache.specs.declared.line_cache.LineCache.{LineCache}
@@ -13,12 +14,20 @@ use Rattle.lab_watch.specs.declared.watched.Watched.{Watched}
 use Rattle.lab_watch.specs.Within.{within}
 use Rattle.lab_sources.specs.declared.runs.GivenRun.{GivenRun}
 use Rattle.lab_options.specs.declared.options.RunOptions.{RunOptions}
+use Rattle.lab_sources.specs.Sources.{IsSourceOf}
+use Rattle.lab_sources.specs.Stimuli.{AreGiven}
 use Rattle.lab_sources.specs.Planners.{IsLinkedAs, IsAskedFor}
 
--- the run that was asked for: a source, linked by a scheduler or the plans of a file, as the options say, within their budget
-pub record IsRunOf (options : RunOptions) (run : GivenRun) : Type 0 where
+-- the run that was asked for: the named source, linked by the named plans, with what the named files give it; each was read once,
+-- in this order
+pub record IsRunOf (told : Told) (options : RunOptions) (before after : Counts) (run : GivenRun) : Type 0 where
+  pub read : Counts
+  pub planned : Counts
+  pub source : IsSourceOf told options.source.now before read run.program.text.items run.program.source
+  pub asked : IsAskedFor told options.plans run.program.source read planned run.by
   pub linked : IsLinkedAs run.by run.program
-  pub asked : IsAskedFor options.plans run.by
+  pub stimulus : AreGiven told (option_map (λ s. s.now) options.stimulus.interrupts) (option_map (λ s. s.now) options.stimulus.input)
+      planned after run.stimulus
   pub budget : run.budget ≡ options.budget
 
 -- an input has no more bytes than a file may have

@@ -1,10 +1,13 @@
 -- Sources by the texts of files.
 use Rattle.std.specs.Prelude.{◌≡◌, ℕ, List, Some}
 use Rattle.mx_isa.specs.declared.board.TheConstants.{DATA_BASE, DATA_END}
+use Rattle.mx_io.specs.Shelves.{Told, Counts}
 use Rattle.mx_source.specs.SourceValue.{SourceValue}
 use Rattle.mx_asm.specs.Texts.{ReadsAs, text_fault}
 use Rattle.lab_failure.specs.declared.failure.LabFailure.{LabFailure}
 use Rattle.lab_failure.specs.declared.failure.LabFailure.TheVariants.{Memory, Source}
+use Rattle.lab_failure.specs.declared.failure.LabFile.TheVariants as file
+use Rattle.lab_failure.specs.Files.{IsReadAs}
 
 -- the text has no fault, and spells the source
 abbrev pub Spells : List ℕ → SourceValue → Type 0
@@ -15,3 +18,8 @@ abbrev pub IsFaultOf : List ℕ → List ℕ → LabFailure → Type 0
 IsFaultOf name text (Source n line fault) = (n.now ≡ name) × (text_fault DATA_BASE DATA_END text ≡ Some (line, fault))
 IsFaultOf name text Memory = Unit {0}
 IsFaultOf name text _ = ⊥
+
+-- the named file was read, and gave the text, which spells the source
+pub record IsSourceOf (told : Told) (name : List ℕ) (before after : Counts) (text : List ℕ) (source : SourceValue) : Type 0 where
+  pub read : IsReadAs told file.Source name text before after
+  pub spells : Spells text source

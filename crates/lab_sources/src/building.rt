@@ -6,7 +6,7 @@ ghost use Rattle.mx_plans.specs.Files.{lines_said};
 ghost use Rattle.cmd_answer.specs.Answer.{writes};
 ghost use Rattle.cmd_answer.specs.Replies.{reply_answer};
 ghost use Rattle.lab_sources.specs.Refusals.{IsTooFar};
-ghost use Rattle.lab_sources.specs.Building.{contents_linked, IsBuilt};
+ghost use Rattle.lab_sources.specs.Building.{contents_linked, IsBuilt, IsBuildOf};
 
 use crate::plan_files::plans_of;
 use crate::sources::{read_source, unlinked};
@@ -82,7 +82,10 @@ pub fn build_reply<'w, S: Shelf>(
     options: &BuildOptions<'w>,
     shelf: &mut S,
     notes: &mut Vec<u8>,
-) -> Result<Reply, LabFailure<'w>> {
+) -> Result<Reply, LabFailure<'w>>
+    ensures { IfOk result (λ r. IsBuildOf (S.told shelf.old) options.now (S.counts shelf.old) (S.counts shelf.new)
+        notes.old.items notes.new.items (reply_answer r)) }
+{
     let source = read_source(alloc, shelf, options.source)?;
     let lines = plans_of(alloc, shelf, &source, options.plans)?;
     let reply = built_reply(alloc, options, &source, lines.as_slice(), notes)?;

@@ -1,7 +1,7 @@
 //! By whose plans a source is linked.
 ghost use Rattle.std.specs.Prelude.{◌≡◌, IfOk};
 ghost use Rattle.lab_sources.specs.Schedulers.{IsLinkedSource};
-ghost use Rattle.lab_sources.specs.Planners.{IsLinkedAs, IsAskedFor, IsByFile};
+ghost use Rattle.lab_sources.specs.Planners.{IsLinkedAs, IsAskedFor, IsByLines};
 
 use crate::plan_files::plans_of;
 use crate::schedulers::program_by;
@@ -62,7 +62,7 @@ fn linked_by_file<'w>(
 ) -> Result<PlannedProgram, LabFailure<'w>>
     ensures linked { IfOk result (λ made. IsLinkedAs made.by made.program) }
     ensures text { IfOk result (λ made. (made.program.text ≡ program.text) × (made.program.source ≡ program.source)) }
-    ensures by { IfOk result (λ made. IsByFile made.by) }
+    ensures by { IfOk result (λ made. IsByLines lines.items made.by) }
 {
     let Program { text, source, .. } = program;
     match link_told(alloc, &source, lines.as_slice()) {
@@ -91,7 +91,10 @@ fn read_planned<'w, S: Shelf>(
 ) -> Result<PlannedProgram, LabFailure<'w>>
     ensures linked { IfOk result (λ made. IsLinkedAs made.by made.program) }
     ensures text { IfOk result (λ made. (made.program.text ≡ program.text) × (made.program.source ≡ program.source)) }
-    ensures by { IfOk result (λ made. IsByFile made.by) }
+    ensures by { IfOk result (λ made. IsAskedFor (S.told shelf.old) (PlansOf.File file.entry) program.source
+        (S.counts shelf.old) (S.counts shelf.new) made.by) }
+    ensures told_stays { S.told shelf.new ≡ S.told shelf.old }
+    ensures writes_stay { S.write_faults shelf.new ≡ S.write_faults shelf.old }
 {
     let lines = plans_of(alloc, shelf, &program.source, file)?;
     let made = linked_by_file(alloc, source, program, lines)?;
@@ -127,7 +130,10 @@ pub fn planned<'w, S: Shelf>(
     requires { IsLinkedSource program }
     ensures linked { IfOk result (λ made. IsLinkedAs made.by made.program) }
     ensures text { IfOk result (λ made. (made.program.text ≡ program.text) × (made.program.source ≡ program.source)) }
-    ensures by { IfOk result (λ made. IsAskedFor options.now.plans made.by) }
+    ensures by { IfOk result (λ made. IsAskedFor (S.told shelf.old) options.now.plans program.source
+        (S.counts shelf.old) (S.counts shelf.new) made.by) }
+    ensures told_stays { S.told shelf.new ≡ S.told shelf.old }
+    ensures writes_stay { S.write_faults shelf.new ≡ S.write_faults shelf.old }
 {
     let name = options.source;
     match options.plans {

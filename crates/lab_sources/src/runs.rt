@@ -1,6 +1,7 @@
 //! Sources with what their runs are given.
-ghost use Rattle.std.specs.Prelude.{◌≡◌, IfOk};
+ghost use Rattle.std.specs.Prelude.{◌≡◌, IfOk, option_map};
 ghost use Rattle.std.specs.Option.{option_copied};
+ghost use Rattle.lab_sources.specs.Stimuli.{AreGiven};
 ghost use Rattle.lab_sources.specs.Runs.{input_of, IsOfFile, IsLoaded, IsRunOf};
 
 use crate::planners::{PlannedProgram, Planner, planned};
@@ -60,7 +61,11 @@ fn run_with<'w, S: Shelf>(
     options: &RunOptions<'w>,
     planned: PlannedProgram,
 ) -> Result<GivenRun, LabFailure<'w>>
-    ensures { IfOk result (λ run. (run.program ≡ planned.program) × (run.by ≡ planned.by) × (run.budget ≡ options.now.budget)) }
+    ensures made { IfOk result (λ run. (run.program ≡ planned.program) × (run.by ≡ planned.by) × (run.budget ≡ options.now.budget)) }
+    ensures given { IfOk result (λ run. AreGiven (S.told shelf.old) (option_map (λ s. s.now) options.now.stimulus.interrupts)
+        (option_map (λ s. s.now) options.now.stimulus.input) (S.counts shelf.old) (S.counts shelf.new) run.stimulus) }
+    ensures told_stays { S.told shelf.new ≡ S.told shelf.old }
+    ensures writes_stay { S.write_faults shelf.new ≡ S.write_faults shelf.old }
 {
     let PlannedProgram { program, by } = planned;
     let stimulus = read_stimulus(alloc, shelf, options.stimulus)?;
@@ -79,7 +84,9 @@ pub fn read_run<'w, S: Shelf>(
     shelf: &mut S,
     options: &RunOptions<'w>,
 ) -> Result<GivenRun, LabFailure<'w>>
-    ensures { IfOk result (IsRunOf options.now) }
+    ensures run { IfOk result (IsRunOf (S.told shelf.old) options.now (S.counts shelf.old) (S.counts shelf.new)) }
+    ensures told_stays { S.told shelf.new ≡ S.told shelf.old }
+    ensures writes_stay { S.write_faults shelf.new ≡ S.write_faults shelf.old }
 {
     let read = read_program(alloc, shelf, options.source)?;
     let made = planned(alloc, shelf, options, read)?;
@@ -94,7 +101,9 @@ pub fn noted_run<'w, S: Shelf>(
     options: &RunOptions<'w>,
     notes: &mut Vec<u8>,
 ) -> Result<GivenRun, LabFailure<'w>>
-    ensures { IfOk result (IsRunOf options.now) }
+    ensures run { IfOk result (IsRunOf (S.told shelf.old) options.now (S.counts shelf.old) (S.counts shelf.new)) }
+    ensures told_stays { S.told shelf.new ≡ S.told shelf.old }
+    ensures writes_stay { S.write_faults shelf.new ≡ S.write_faults shelf.old }
 {
     let run = read_run(alloc, shelf, options)?;
     notes.extend_from_slice(run.by.rejections())?;

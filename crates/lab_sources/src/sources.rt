@@ -1,9 +1,9 @@
 //! Sources by their names: read, assembled and linked, or what is wrong with them.
-ghost use Rattle.std.specs.Prelude.{◌≡◌, ◌≤◌, IfOk, IfErr, length, vec_len};
+ghost use Rattle.std.specs.Prelude.{◌≡◌, ◌≤◌, ℕ, List, IfOk, IfErr, length, vec_len};
 ghost use Rattle.mx_io.specs.declared.limits.TheConstants.{MAX_SOURCE_BYTES};
 ghost use Rattle.lab_sources.specs.Refusals.{Tells};
 ghost use Rattle.lab_sources.specs.Schedulers.{IsLinkedSource};
-ghost use Rattle.lab_sources.specs.Sources.{Spells, IsFaultOf};
+ghost use Rattle.lab_sources.specs.Sources.{Spells, IsFaultOf, IsSourceOf};
 
 use crate::schedulers::linked_by;
 use cmd_source::Program;
@@ -49,7 +49,12 @@ pub fn read_source<'w, S: Shelf>(
     alloc: Global,
     shelf: &mut S,
     name: &'w str,
-) -> Result<Source, LabFailure<'w>> {
+) -> Result<Source, LabFailure<'w>>
+    ensures read { IfOk result (λ source. (text : List ℕ)
+        × IsSourceOf (S.told shelf.old) name.entry.now (S.counts shelf.old) (S.counts shelf.new) text source) }
+    ensures told_stays { S.told shelf.new ≡ S.told shelf.old }
+    ensures writes_stay { S.write_faults shelf.new ≡ S.write_faults shelf.old }
+{
     let text = read_lab_file(alloc, shelf, LabFile::Source, name)?;
     let source = assembled(alloc, name, text.as_slice())?;
     Ok(source)
@@ -82,7 +87,10 @@ pub fn read_program<'w, S: Shelf>(
     shelf: &mut S,
     name: &'w str,
 ) -> Result<Program, LabFailure<'w>>
+    ensures read { IfOk result (λ p. IsSourceOf (S.told shelf.old) name.entry.now (S.counts shelf.old) (S.counts shelf.new) p.text.items p.source) }
     ensures linked { IfOk result IsLinkedSource }
+    ensures told_stays { S.told shelf.new ≡ S.told shelf.old }
+    ensures writes_stay { S.write_faults shelf.new ≡ S.write_faults shelf.old }
 {
     let text = read_lab_file(alloc, shelf, LabFile::Source, name)?;
     let program = linked_text(alloc, name, text)?;

@@ -1,6 +1,8 @@
 //! The files that come to a run from outside.
-ghost use Rattle.std.specs.Prelude.{◌≤◌, IfOk, length};
+ghost use Rattle.std.specs.Prelude.{◌≡◌, ◌≤◌, IfOk, Ok, length, option_map};
 ghost use Rattle.mx_io.specs.declared.limits.TheConstants.{MAX_FILE_BYTES};
+ghost use Rattle.mx_board.specs.RequestFile.{requests_of};
+ghost use Rattle.lab_sources.specs.Stimuli.{IsReadIf, AreGiven};
 ghost use Rattle.lab_failure.specs.Failures.{limit_of};
 
 use crate::stimulus::Stimulus;
@@ -28,6 +30,7 @@ fn parse_requests<'w>(
     bytes: &[u8],
 ) -> Result<Requests, LabFailure<'w>>
     requires { length bytes.now ≤ MAX_FILE_BYTES }
+    ensures { IfOk result (λ requests. requests_of bytes.now ≡ Ok requests) }
 {
     match Requests::parse(alloc, bytes) {
         Ok(requests) => Ok(requests),
@@ -42,7 +45,11 @@ fn read_if<'w, S: Shelf>(
     kind: LabFile,
     name: Option<&'w str>,
 ) -> Result<Vec<u8>, LabFailure<'w>>
+    ensures read { IfOk result (λ bytes. IsReadIf (S.told shelf.old) kind (option_map (λ s. s.now) name.entry) bytes.items
+        (S.counts shelf.old) (S.counts shelf.new)) }
     ensures within { IfOk result (λ bytes. length bytes.items ≤ limit_of kind) }
+    ensures told_stays { S.told shelf.new ≡ S.told shelf.old }
+    ensures writes_stay { S.write_faults shelf.new ≡ S.write_faults shelf.old }
 {
     match name {
         Some(name) => {
@@ -58,7 +65,12 @@ pub fn read_stimulus<'w, S: Shelf>(
     alloc: Global,
     shelf: &mut S,
     names: StimulusNames<'w>,
-) -> Result<Stimulus, LabFailure<'w>> {
+) -> Result<Stimulus, LabFailure<'w>>
+    ensures given { IfOk result (AreGiven (S.told shelf.old) (option_map (λ s. s.now) names.entry.interrupts) (option_map (λ s. s.now) names.entry.input)
+        (S.counts shelf.old) (S.counts shelf.new)) }
+    ensures told_stays { S.told shelf.new ≡ S.told shelf.old }
+    ensures writes_stay { S.write_faults shelf.new ≡ S.write_faults shelf.old }
+{
     let cycles = read_if(alloc, shelf, LabFile::Interrupts, names.interrupts)?;
     let requests = parse_requests(alloc, names.interrupts.unwrap_or(""), cycles.as_slice())?;
     let input = read_if(alloc, shelf, LabFile::Input, names.input)?;

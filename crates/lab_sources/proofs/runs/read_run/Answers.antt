@@ -1,5 +1,18 @@
+-- The run is made of what each step gave.
+use Rattle.std.proofs.Common.{◌∙◌}
+use Rattle.mx_io.specs.Shelves.{Told, Counts}
 use Rattle.lab_sources.proofs.Asked.{is_run}
 use Rattle.lab_sources.proofs.runs.read_run.Goals as goal
 
-pub returns : goal.returns
-returns g c = is_run c.args.options.now c.in_ok-made.made c.in_ok-run.run' c.in_ok-made.ensures.linked c.in_ok-made.ensures.by c.in_ok-run.ensures
+pub returns-clause-run : goal.returns-clause-run
+returns-clause-run g c =
+    is_run (record {
+      first_tells = c.in_ok-read.ensures.told_stays;
+      then_tells = c.in_ok-made.ensures.told_stays ∙ c.in_ok-read.ensures.told_stays;
+      source = c.in_ok-read.ensures.read;
+      linked = c.in_ok-made.ensures.linked;
+      same = c.in_ok-made.ensures.text;
+      asked = c.in_ok-made.ensures.by;
+      parts = c.in_ok-run.ensures.made;
+      given = c.in_ok-run.ensures.given;
+    })
