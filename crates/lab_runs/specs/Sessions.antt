@@ -1,5 +1,5 @@
 -- Sessions of sources that are linked by the plans of a file.
-use Rattle.std.specs.Prelude.{◌≡◌, ℕ, Bool, true, List, codes, cond, ltb, length, min, max, Option, Some, None, is_some, option_and_then}
+use Rattle.std.specs.Prelude.{◌≡◌, ℕ, Bool, true, List, codes, cond, ltb, length, min, max, Option, Some, None, is_some, option_and_then, option_map}
 use Rattle.mx_isa.specs.Board.{board}
 use Rattle.mx_io.specs.Shelves.{Told, Counts}
 use Rattle.mx_source.specs.declared.Label.{Label}
@@ -17,6 +17,10 @@ use Rattle.cmd_options.specs.Options.{Files}
 use Rattle.cmd_options.specs.declared.SessionLimits.{SessionLimits}
 use Rattle.cmd_debug.specs.Sessions.{session_protocol}
 use Rattle.lab_options.specs.declared.options.DebugOptions.{DebugOptions}
+use Rattle.lab_sources.specs.declared.stimulus.Stimulus.{Stimulus}
+use Rattle.lab_sources.specs.PlanFiles.{ArePlansOf}
+use Rattle.lab_sources.specs.Sources.{IsSourceOf}
+use Rattle.lab_sources.specs.Stimuli.{AreGiven}
 
 -- the statement of a source of so many at which a label stands, if it is a code label and one stands there
 abbrev pub statement_at : ℕ → Label → Option ℕ
@@ -58,3 +62,29 @@ pub record IsSession (source : SourceValue) (lines : List LineSaid) (index : ℕ
   pub is : IsLinked (IsProposed source (marks_of lines)) from_nowhere source board linked
   pub session : IsSessionOf linked.image.code.items linked.image.user_data.items (is_some source.input) (link_map board is.sites index)
       cycles input limits answer
+
+-- the named interrupt file and input were read, and the answer is that of the session of the source with their bytes
+pub record IsSessionGiven (told : Told) (options : DebugOptions) (source : SourceValue) (lines : List LineSaid) (index : ℕ)
+    (before after : Counts) (answer : Answer) : Type 0 where
+  pub stimulus : Stimulus
+  pub given : AreGiven told (option_map (λ s. s.now) options.stimulus.interrupts) (option_map (λ s. s.now) options.stimulus.input)
+      before after stimulus
+  pub session : IsSession source lines index stimulus.cycles.items stimulus.input.items (limits_of options) answer
+
+-- the named plan file was read first, and the session is that of the source with its lines
+pub record IsSessionPlanned (told : Told) (options : DebugOptions) (source : SourceValue) (index : ℕ) (before after : Counts)
+    (answer : Answer) : Type 0 where
+  pub lines : List LineSaid
+  pub between : Counts
+  pub read : ArePlansOf told options.plans.now source before between lines
+  pub session : IsSessionGiven told options source lines index between after answer
+
+-- the named source was read first, and the session is at the statement of the named label
+pub record IsDebugOf (told : Told) (options : DebugOptions) (before after : Counts) (answer : Answer) : Type 0 where
+  pub text : List ℕ
+  pub source : SourceValue
+  pub index : ℕ
+  pub between : Counts
+  pub read : IsSourceOf told options.source.now before between text source
+  pub labelled : statement_named source options.label.now ≡ Some index
+  pub session : IsSessionPlanned told options source index between after answer

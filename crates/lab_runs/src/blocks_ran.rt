@@ -92,7 +92,8 @@ pub fn ran_blocks<'w, S: Shelf, W: Watcher>(
     shelf: &mut S,
     watcher: W,
 ) -> Result<RanBlocks, LabFailure<'w>>
-    ensures { IfOk result (λ ran. (run : GivenRun) × IsRunOf options.now run × AreOfRun run ran) }
+    ensures { IfOk result (λ ran. (run : GivenRun) × IsRunOf (S.told shelf.old) options.now (S.counts shelf.old) (S.counts shelf.new) run
+        × AreOfRun run ran) }
 {
     let run = read_run(alloc, shelf, options)?;
     let ran = blocks_of(alloc, &run, watcher)?;

@@ -9,7 +9,8 @@ ghost use Rattle.mx_plans.specs.Says.{IsProposed};
 ghost use Rattle.cmd_answer.specs.Replies.{reply_answer};
 ghost use Rattle.cmd_options.specs.Options.{IsAsked};
 ghost use Rattle.lab_sources.specs.Refusals.{IsTooFar};
-ghost use Rattle.lab_runs.specs.Sessions.{statement_at, statement_named, limits_of, IsSessionOf, IsSession};
+ghost use Rattle.lab_sources.specs.PlanFiles.{ArePlansOf};
+ghost use Rattle.lab_runs.specs.Sessions.{statement_at, statement_named, limits_of, IsSessionOf, IsSession, IsSessionGiven, IsSessionPlanned, IsDebugOf};
 
 use crate::quiet_files::{INPUT, INTERRUPTS, QuietFiles};
 use cmd_answer::{Reply, replied};
@@ -179,7 +180,12 @@ fn read_lines<'w, S: Shelf>(
     shelf: &mut S,
     source: &Source,
     notes: &mut Vec<u8>,
-) -> Result<Vec<PlanLine>, LabFailure<'w>> {
+) -> Result<Vec<PlanLine>, LabFailure<'w>>
+    ensures read { IfOk result (λ lines. ArePlansOf (S.told shelf.old) options.now.plans.now source.now (S.counts shelf.old) (S.counts shelf.new)
+        (lines_said lines.items)) }
+    ensures told_stays { S.told shelf.new ≡ S.told shelf.old }
+    ensures writes_stay { S.write_faults shelf.new ≡ S.write_faults shelf.old }
+{
     let lines = plans_of(alloc, shelf, source, options.plans)?;
     note_rejected(alloc, options.source, source, lines.as_slice(), notes)?;
     Ok(lines)
@@ -195,6 +201,10 @@ fn labelled_reply<'w, S: Shelf>(
     index: u32,
 ) -> Result<Reply, LabFailure<'w>>
     requires { index < length source.now.statements }
+    ensures session { IfOk result (λ r. IsSessionGiven (S.told shelf.old) options.now source.now (lines_said lines.now) index
+        (S.counts shelf.old) (S.counts shelf.new) (reply_answer r)) }
+    ensures told_stays { S.told shelf.new ≡ S.told shelf.old }
+    ensures writes_stay { S.write_faults shelf.new ≡ S.write_faults shelf.old }
 {
     let stimulus = read_stimulus(alloc, shelf, options.stimulus)?;
     let limits = session_limits(options);
@@ -220,6 +230,10 @@ fn session_reply<'w, S: Shelf>(
     notes: &mut Vec<u8>,
 ) -> Result<Reply, LabFailure<'w>>
     requires { index < length source.now.statements }
+    ensures session { IfOk result (λ r. IsSessionPlanned (S.told shelf.old) options.now source.now index (S.counts shelf.old) (S.counts shelf.new)
+        (reply_answer r)) }
+    ensures told_stays { S.told shelf.new ≡ S.told shelf.old }
+    ensures writes_stay { S.write_faults shelf.new ≡ S.write_faults shelf.old }
 {
     let lines = read_lines(alloc, options, shelf, source, notes)?;
     let reply = labelled_reply(alloc, options, shelf, source, lines.as_slice(), index)?;
@@ -233,7 +247,11 @@ pub fn debug_reply<'w, S: Shelf>(
     options: &DebugOptions<'w>,
     shelf: &mut S,
     notes: &mut Vec<u8>,
-) -> Result<Reply, LabFailure<'w>> {
+) -> Result<Reply, LabFailure<'w>>
+    ensures session { IfOk result (λ r. IsDebugOf (S.told shelf.old) options.now (S.counts shelf.old) (S.counts shelf.new) (reply_answer r)) }
+    ensures told_stays { S.told shelf.new ≡ S.told shelf.old }
+    ensures writes_stay { S.write_faults shelf.new ≡ S.write_faults shelf.old }
+{
     let source = read_source(alloc, shelf, options.source)?;
     match statement_named(&source, options.label) {
         Some(index) => {
