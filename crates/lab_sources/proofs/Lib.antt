@@ -1,3 +1,4 @@
 pub mod Links
 pub mod TooFar
 pub mod Asked
+pub mod Failures

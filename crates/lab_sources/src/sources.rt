@@ -3,7 +3,7 @@ ghost use Rattle.std.specs.Prelude.{◌≡◌, ◌≤◌, ℕ, List, IfOk, IfErr
 ghost use Rattle.mx_io.specs.declared.limits.TheConstants.{MAX_SOURCE_BYTES};
 ghost use Rattle.lab_sources.specs.Refusals.{Tells};
 ghost use Rattle.lab_sources.specs.Schedulers.{IsLinkedSource};
-ghost use Rattle.lab_sources.specs.Sources.{Spells, IsFaultOf, IsSourceOf};
+ghost use Rattle.lab_sources.specs.Sources.{Spells, IsFaultOf, IsSourceOf, IsNoSource, IsNoProgramOf, IsNoProgram};
 
 use crate::schedulers::linked_by;
 use cmd_source::Program;
@@ -52,6 +52,7 @@ pub fn read_source<'w, S: Shelf>(
 ) -> Result<Source, LabFailure<'w>>
     ensures read { IfOk result (λ source. (text : List ℕ)
         × IsSourceOf (S.told shelf.old) name.entry.now (S.counts shelf.old) (S.counts shelf.new) text source) }
+    ensures refused { IfErr result (IsNoSource (S.told shelf.old) name.entry.now (S.counts shelf.old) (S.counts shelf.new)) }
     ensures told_stays { S.told shelf.new ≡ S.told shelf.old }
     ensures writes_stay { S.write_faults shelf.new ≡ S.write_faults shelf.old }
 {
@@ -69,6 +70,7 @@ pub fn linked_text<'w>(
     requires { vec_len text ≤ MAX_SOURCE_BYTES }
     ensures text { IfOk result (λ p. (p.text ≡ text) × Spells text.items p.source) }
     ensures linked { IfOk result IsLinkedSource }
+    ensures refused { IfErr result (IsNoProgramOf name.entry.now text.items) }
 {
     let source = assembled(alloc, name, text.as_slice())?;
     match linked_by(alloc, &source, Scheduler::Copies) {
@@ -89,6 +91,7 @@ pub fn read_program<'w, S: Shelf>(
 ) -> Result<Program, LabFailure<'w>>
     ensures read { IfOk result (λ p. IsSourceOf (S.told shelf.old) name.entry.now (S.counts shelf.old) (S.counts shelf.new) p.text.items p.source) }
     ensures linked { IfOk result IsLinkedSource }
+    ensures refused { IfErr result (IsNoProgram (S.told shelf.old) name.entry.now (S.counts shelf.old) (S.counts shelf.new)) }
     ensures told_stays { S.told shelf.new ≡ S.told shelf.old }
     ensures writes_stay { S.write_faults shelf.new ≡ S.write_faults shelf.old }
 {

@@ -6,7 +6,7 @@ use Rattle.lab_sources.proofs.runs.read_run.Goals as goal
 
 pub returns-clause-run : goal.returns-clause-run
 returns-clause-run g c =
-    is_run (record {
+    is_run {program = c.in_ok-read.read} (record {
       first_tells = c.in_ok-read.ensures.told_stays;
       then_tells = c.in_ok-made.ensures.told_stays ∙ c.in_ok-read.ensures.told_stays;
       source = c.in_ok-read.ensures.read;
