@@ -4,7 +4,7 @@ use Rattle.std.specs.Prelude.{option_map}
 use Rattle.mx_io.specs.Shelves.{Told, Counts}
 use Rattle.mx_source.specs.SourceValue.{SourceValue}
 use Rattle.mx_plans.specs.declared.PlanLine.{PlanLine}
-use Rattle.mx_plans.specs.Files.{LineSaid, lines_said}
+use Rattle.mx_plans.specs.Files.{lines_said}
 use Rattle.cmd_source.specs.declared.sources.Program.{Program}
 use Rattle.lab_failure.specs.declared.failure.LabFailure.{LabFailure}
 use Rattle.lab_options.specs.declared.options.RunOptions.{RunOptions}

@@ -1,6 +1,5 @@
 -- The run is made of what each step gave.
 use Rattle.std.proofs.Common.{◌∙◌}
-use Rattle.mx_io.specs.Shelves.{Told, Counts}
 use Rattle.lab_sources.proofs.Asked.{is_run}
 use Rattle.lab_sources.proofs.runs.read_run.Goals as goal
 

@@ -1,5 +1,5 @@
 -- The interrupt file is read first, and spells the requests; then the input is.
-use Rattle.std.proofs.Common.{◌≡◌, ℕ, List, Ok, Option, subst}
+use Rattle.std.proofs.Common.{◌≡◌, ℕ, List, Ok, subst}
 use Rattle.std.specs.Prelude.{option_map}
 use Rattle.mx_io.specs.Shelves.{Told, Counts}
 use Rattle.mx_board.specs.RequestFile.{requests_of}
