@@ -10,7 +10,7 @@ use Rattle.lab_failure.specs.declared.failure.LabFailure.{LabFailure}
 use Rattle.lab_sources.specs.Refusals.{IsTooFar}
 use Rattle.lab_runs.specs.Sessions.{IsSessionOf}
 use Rattle.lab_sources.proofs.Links.{in_code, links_count, link_there}
-use Rattle.lab_runs.proofs.Failures.{fails}
+use Rattle.lab_sources.proofs.Failures.{fails}
 use Rattle.lab_runs.proofs.debugging.stopped_reply.Goals as goal
 
 pub link_at-address-requires : goal.link_at-address-requires
