@@ -1,5 +1,5 @@
 -- The source is that of the named file, and the other files are read after it.
-use Rattle.std.proofs.Common.{subst, sym, ◌∙◌}
+use Rattle.std.proofs.Common.{subst, sym}
 use Rattle.mx_io.specs.Shelves.{Told, Counts}
 use Rattle.cmd_answer.specs.Replies.{reply_answer}
 use Rattle.lab_runs.specs.Sessions.{IsSessionPlanned}
@@ -18,6 +18,6 @@ returns-in-Some-clause-session g c =
       between = between;
       read = c.in_ok-source.ensures.read.1;
       labelled = sym c.in-Some.ensures.statement;
-      session = subst (λ (t : Told). IsSessionPlanned t options source c.in-Some.index between after (reply_answer c.in_ok-reply.reply))
-          c.in_ok-source.ensures.told_stays c.in_ok-reply.ensures.session;
+      session = subst (λ (t : Told). IsSessionPlanned t options source c.in-Some.index between after (reply_answer c.in_ok-reply-in-Some.reply))
+          c.in_ok-source.ensures.told_stays c.in_ok-reply-in-Some.ensures.session;
     }
