@@ -1,5 +1,5 @@
 -- Sessions of sources that are linked by the plans of a file.
-use Rattle.std.specs.Prelude.{◌≡◌, ℕ, Bool, true, List, codes, cond, ltb, length, min, max, Option, Some, None, is_some, option_and_then, option_map}
+use Rattle.std.specs.Prelude.{◌≡◌, ◌⊎◌, ℕ, Bool, true, List, codes, cond, ltb, length, min, max, Option, Some, None, is_some, option_and_then, option_map}
 use Rattle.mx_isa.specs.Board.{board}
 use Rattle.mx_io.specs.Shelves.{Told, Counts}
 use Rattle.mx_source.specs.declared.Label.{Label}
@@ -16,11 +16,13 @@ use Rattle.cmd_answer.specs.Protocol.{Performed}
 use Rattle.cmd_options.specs.Options.{Files}
 use Rattle.cmd_options.specs.declared.SessionLimits.{SessionLimits}
 use Rattle.cmd_debug.specs.Sessions.{session_protocol}
+use Rattle.lab_failure.specs.declared.failure.LabFailure.{LabFailure}
 use Rattle.lab_options.specs.declared.options.DebugOptions.{DebugOptions}
 use Rattle.lab_sources.specs.declared.stimulus.Stimulus.{Stimulus}
 use Rattle.lab_sources.specs.PlanFiles.{ArePlansOf}
 use Rattle.lab_sources.specs.Sources.{IsSourceOf}
-use Rattle.lab_sources.specs.Stimuli.{AreGiven}
+use Rattle.lab_sources.specs.Refusals.{IsTooFar}
+use Rattle.lab_sources.specs.Stimuli.{AreGiven, IsNoStimulus}
 
 -- the statement of a source of so many at which a label stands, if it is a code label and one stands there
 abbrev pub statement_at : ℕ → Label → Option ℕ
@@ -70,6 +72,12 @@ pub record IsSessionGiven (told : Told) (options : DebugOptions) (source : Sourc
   pub given : AreGiven told (option_map (λ s. s.now) options.stimulus.interrupts) (option_map (λ s. s.now) options.stimulus.input)
       before after stimulus
   pub session : IsSession source lines index stimulus.cycles.items stimulus.input.items (limits_of options) answer
+
+-- the failure tells what is wrong with the named interrupt file or input, or which branch of the source does not reach its target
+abbrev pub IsNoSession : Told → DebugOptions → SourceValue → List LineSaid → Counts → Counts → LabFailure → Type 0
+IsNoSession told options source lines before after failure =
+    IsNoStimulus told (option_map (λ s. s.now) options.stimulus.interrupts) (option_map (λ s. s.now) options.stimulus.input) before after failure
+    ⊎ IsTooFar options.source.now source lines failure
 
 -- the named plan file was read first, and the session is that of the source with its lines
 pub record IsSessionPlanned (told : Told) (options : DebugOptions) (source : SourceValue) (index : ℕ) (before after : Counts)

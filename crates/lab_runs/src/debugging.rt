@@ -10,7 +10,7 @@ ghost use Rattle.cmd_answer.specs.Replies.{reply_answer};
 ghost use Rattle.cmd_options.specs.Options.{IsAsked};
 ghost use Rattle.lab_sources.specs.Refusals.{IsTooFar};
 ghost use Rattle.lab_sources.specs.PlanFiles.{ArePlansOf};
-ghost use Rattle.lab_runs.specs.Sessions.{statement_at, statement_named, limits_of, IsSessionOf, IsSession, IsSessionGiven, IsSessionPlanned, IsDebugOf};
+ghost use Rattle.lab_runs.specs.Sessions.{statement_at, statement_named, limits_of, IsSessionOf, IsSession, IsSessionGiven, IsNoSession, IsSessionPlanned, IsDebugOf};
 
 use crate::quiet_files::{INPUT, INTERRUPTS, QuietFiles};
 use cmd_answer::{Reply, replied};
@@ -203,6 +203,7 @@ fn labelled_reply<'w, S: Shelf>(
     requires { index < length source.now.statements }
     ensures session { IfOk result (λ r. IsSessionGiven (S.told shelf.old) options.now source.now (lines_said lines.now) index
         (S.counts shelf.old) (S.counts shelf.new) (reply_answer r)) }
+    ensures refused { IfErr result (IsNoSession (S.told shelf.old) options.now source.now (lines_said lines.now) (S.counts shelf.old) (S.counts shelf.new)) }
     ensures told_stays { S.told shelf.new ≡ S.told shelf.old }
     ensures writes_stay { S.write_faults shelf.new ≡ S.write_faults shelf.old }
 {

@@ -2,3 +2,4 @@ pub mod Links
 pub mod TooFar
 pub mod Asked
 pub mod Failures
+pub mod Faulty

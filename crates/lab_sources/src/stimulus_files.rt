@@ -1,8 +1,8 @@
 //! The files that come to a run from outside.
-ghost use Rattle.std.specs.Prelude.{◌≡◌, ◌≤◌, IfOk, Ok, length, option_map};
+ghost use Rattle.std.specs.Prelude.{◌≡◌, ◌≤◌, IfOk, IfErr, Ok, length, option_map};
 ghost use Rattle.mx_io.specs.declared.limits.TheConstants.{MAX_FILE_BYTES};
 ghost use Rattle.mx_board.specs.RequestFile.{requests_of};
-ghost use Rattle.lab_sources.specs.Stimuli.{IsReadIf, AreGiven};
+ghost use Rattle.lab_sources.specs.Stimuli.{IsReadIf, AreGiven, IsUnreadIf, TellsError, IsFaultyFile, IsNoStimulus};
 ghost use Rattle.lab_failure.specs.Failures.{limit_of};
 
 use crate::stimulus::Stimulus;
@@ -13,14 +13,27 @@ use mx_io::Shelf;
 use std::alloc::Global;
 
 // What is wrong with an interrupt file of this name.
-fn cycles_failure<'w>(name: &'w str, error: EventError) -> LabFailure<'w> {
-    let (line, fault) = match error {
-        EventError::BadLine { line } => (line, LineFault::BadCycle),
-        EventError::TooMany { line } => (line, LineFault::TooManyCycles),
-        EventError::NotAscending { line } => (line, LineFault::NotAscending),
-        EventError::Memory => return LabFailure::Memory,
-    };
-    LabFailure::Line { name, line, fault }
+fn cycles_failure<'w>(name: &'w str, error: EventError) -> LabFailure<'w>
+    ensures { TellsError name.entry.now error result }
+{
+    match error {
+        EventError::BadLine { line } => LabFailure::Line {
+            name,
+            line,
+            fault: LineFault::BadCycle,
+        },
+        EventError::TooMany { line } => LabFailure::Line {
+            name,
+            line,
+            fault: LineFault::TooManyCycles,
+        },
+        EventError::NotAscending { line } => LabFailure::Line {
+            name,
+            line,
+            fault: LineFault::NotAscending,
+        },
+        EventError::Memory => LabFailure::Memory,
+    }
 }
 
 // The requests of the bytes of an interrupt file of this name.
@@ -30,7 +43,8 @@ fn parse_requests<'w>(
     bytes: &[u8],
 ) -> Result<Requests, LabFailure<'w>>
     requires { length bytes.now ≤ MAX_FILE_BYTES }
-    ensures { IfOk result (λ requests. requests_of bytes.now ≡ Ok requests) }
+    ensures spelled { IfOk result (λ requests. requests_of bytes.now ≡ Ok requests) }
+    ensures refused { IfErr result (IsFaultyFile name.entry.now bytes.now) }
 {
     match Requests::parse(alloc, bytes) {
         Ok(requests) => Ok(requests),
@@ -48,14 +62,12 @@ fn read_if<'w, S: Shelf>(
     ensures read { IfOk result (λ bytes. IsReadIf (S.told shelf.old) kind (option_map (λ s. s.now) name.entry) bytes.items
         (S.counts shelf.old) (S.counts shelf.new)) }
     ensures within { IfOk result (λ bytes. length bytes.items ≤ limit_of kind) }
+    ensures unread { IfErr result (IsUnreadIf kind (option_map (λ s. s.now) name.entry) (S.counts shelf.old) (S.counts shelf.new)) }
     ensures told_stays { S.told shelf.new ≡ S.told shelf.old }
     ensures writes_stay { S.write_faults shelf.new ≡ S.write_faults shelf.old }
 {
     match name {
-        Some(name) => {
-            let bytes = read_lab_file(alloc, shelf, kind, name)?;
-            Ok(bytes)
-        }
+        Some(name) => read_lab_file(alloc, shelf, kind, name),
         None => Ok(Vec::new(alloc)),
     }
 }
@@ -68,6 +80,8 @@ pub fn read_stimulus<'w, S: Shelf>(
 ) -> Result<Stimulus, LabFailure<'w>>
     ensures given { IfOk result (AreGiven (S.told shelf.old) (option_map (λ s. s.now) names.entry.interrupts) (option_map (λ s. s.now) names.entry.input)
         (S.counts shelf.old) (S.counts shelf.new)) }
+    ensures refused { IfErr result (IsNoStimulus (S.told shelf.old) (option_map (λ s. s.now) names.entry.interrupts)
+        (option_map (λ s. s.now) names.entry.input) (S.counts shelf.old) (S.counts shelf.new)) }
     ensures told_stays { S.told shelf.new ≡ S.told shelf.old }
     ensures writes_stay { S.write_faults shelf.new ≡ S.write_faults shelf.old }
 {
