@@ -1,0 +1,3 @@
+pub mod Comments
+pub mod Splitting
+pub mod Statements
