@@ -13,9 +13,10 @@ use Rattle.mx_asm.specs.Positions.{front_names, statement_words, line_words, wor
 use Rattle.mx_asm.specs.Printable.{is_name}
 use Rattle.mx_asm.proofs.Spelled.{Splits, splits_end, splits_name, splits_mark, splits_blank, splits_decimal, splits_signed, is_negative, size, is_comma, is_open, is_close, is_hash, register_name, words_are}
 use Rattle.cc_program.specs.declared.symbols.Symbol.{Symbol}
-use Rattle.cc_emit.specs.declared.operand.Operand.{Operand}
-use Rattle.cc_emit.specs.declared.operand.Operand.TheVariants.{Register, Immediate, Count, Memory, Held, Place}
-use Rattle.cc_emit.specs.Statements.{spelled, operand_text, register, word_label, target_label}
+use Rattle.cc_emit.specs.declared.line.Word.{Word as DataWord}
+use Rattle.cc_emit.specs.declared.line.Target.{Target}
+use Rattle.law_emit.specs.Operands.{Operand, Register, Immediate, Count, Memory, Held, Place, spelled, operand_text}
+use Rattle.cc_emit.specs.Statements.{register, word_label, target_label}
 
 module _ (symbols : List Symbol) where
   -- the words of an operand

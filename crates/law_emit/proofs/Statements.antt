@@ -41,9 +41,8 @@ use Rattle.cc_emit.specs.declared.line.Transfer.{Transfer}
 use Rattle.cc_emit.specs.declared.line.Transfer.TheVariants.{Branch, Jump, Call, CallReg, JumpReg, Halt}
 use Rattle.cc_emit.specs.declared.line.Line.{Line}
 use Rattle.cc_emit.specs.declared.line.Line.TheVariants.{Plain as PlainLine, Transfer as TransferLine, Constant, Take, Mark, Told, Written}
-use Rattle.cc_emit.specs.declared.operand.Operand.{Operand}
-use Rattle.cc_emit.specs.declared.operand.Operand.TheVariants.{Register, Immediate, Count, Memory, Held as HeldOperand, Place}
-use Rattle.cc_emit.specs.Statements.{spelled, register, target_label, word_label, condition_text}
+use Rattle.law_emit.specs.Operands.{Operand, Register, Immediate, Count, Memory, Held as HeldOperand, Place, spelled}
+use Rattle.cc_emit.specs.Statements.{register, target_label, word_label, condition_text}
 use Rattle.cc_emit.specs.Lines.{is_short, plain_text, transfer_text, constant_text, line_text}
 use Rattle.law_emit.specs.Statements as own
 use Rattle.law_emit.specs.Reading.{Reads, ReadsAs, LineFits, PlainFits, TransferFits, IsNamed, IsWordNamed, line_statement}
