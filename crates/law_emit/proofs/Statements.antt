@@ -92,7 +92,7 @@ module _ (K : Labels) (symbols : List Symbol) where
       → Reads K (spelled symbols name (Register a) (Register b ∷ Register d ∷ [])) (Ok (statement.Plain (inst.Compute a d b o)))
   unfolding spelled_by compute
   three_reads name o a b d letters undotted named ha hb hd =
-      reads name (m.Compute o) (Register a) (Register b ∷ Register d ∷ []) _ letters undotted named ha (hb, hd, tt)
+      reads name (m.Compute o) (Register a) (Register b ∷ Register d ∷ []) _ letters undotted named ha (hb, (hd, tt))
       (bind_is _ _ a _ (register_read a ha) (bind_is _ _ b _ (register_read b hb) (bind_is _ _ d _ (register_read d hd) refl)))
 
   plain_reads : (plain : Plain) → PlainFits plain → Reads K (plain_text symbols plain) (Ok (statement.Plain (own.instruction plain)))
@@ -111,13 +111,13 @@ module _ (K : Labels) (symbols : List Symbol) where
       reads (codes "not") m.Not (Register a) (Register d ∷ []) _ refl refl refl h.0 (h.1, tt)
       (bind_is _ _ a _ (register_read a h.0) (bind_is _ _ d _ (register_read d h.1) refl))
   plain_reads (Addi a z d) h =
-      reads (codes "addi") m.Addi (Register a) (Immediate z ∷ Register d ∷ []) _ refl refl refl h.0 (h.1, h.2, tt)
+      reads (codes "addi") m.Addi (Register a) (Immediate z ∷ Register d ∷ []) _ refl refl refl h.0 (h.1, (h.2, tt))
       (bind_is _ _ a _ (register_read a h.0) (bind_is _ _ d _ (register_read d h.2) (bind_is _ _ z _ (immediate_read z h.1) refl)))
   plain_reads (Asr a n d) h =
-      reads (codes "asr") m.Asr (Register a) (Count n ∷ Register d ∷ []) _ refl refl refl h.0 (h.1, h.2, tt)
+      reads (codes "asr") m.Asr (Register a) (Count n ∷ Register d ∷ []) _ refl refl refl h.0 (h.1, (h.2, tt))
       (bind_is _ _ a _ (register_read a h.0) (bind_is _ _ d _ (register_read d h.2) (bind_is _ _ n _ (count_read n h.1) refl)))
   plain_reads (Sh a b n d) h =
-      reads (codes "sh") m.Sh (Register a) (Register b ∷ Count n ∷ Register d ∷ []) _ refl refl refl h.0 (h.1, h.2, h.3, tt)
+      reads (codes "sh") m.Sh (Register a) (Register b ∷ Count n ∷ Register d ∷ []) _ refl refl refl h.0 (h.1, (h.2, (h.3, tt)))
       (bind_is _ _ a _ (register_read a h.0)
       (bind_is _ _ b _ (register_read b h.1) (bind_is _ _ d _ (register_read d h.3) (bind_is _ _ n _ (count_read n h.2) refl))))
   plain_reads (Load z base d) h =
@@ -162,7 +162,7 @@ module _ (K : Labels) (symbols : List Symbol) where
       (code_label K (target_label symbols to) >>= λ i. Ok (statement.Branch a b c i))
   unfolding spelled_by branch
   branch_reads name c a b to letters undotted named ha hb ht =
-      reads name (m.Branch c) (Register a) (Register b ∷ Place to ∷ []) _ letters undotted named ha (hb, ht, tt)
+      reads name (m.Branch c) (Register a) (Register b ∷ Place to ∷ []) _ letters undotted named ha (hb, (ht, tt))
       (bind_is _ _ a _ (register_read a ha) (bind_is _ _ b _ (register_read b hb) refl))
 
   swapped_reads : (name : List ℕ) (c : Cond) (a b : ℕ) (to : Target) → is_name name ≡ true → is_dotted name ≡ false
@@ -171,7 +171,7 @@ module _ (K : Labels) (symbols : List Symbol) where
       (code_label K (target_label symbols to) >>= λ i. Ok (statement.Branch b a c i))
   unfolding spelled_by swapped_branch
   swapped_reads name c a b to letters undotted named ha hb ht =
-      reads name (m.SwappedBranch c) (Register a) (Register b ∷ Place to ∷ []) _ letters undotted named ha (hb, ht, tt)
+      reads name (m.SwappedBranch c) (Register a) (Register b ∷ Place to ∷ []) _ letters undotted named ha (hb, (ht, tt))
       (bind_is _ _ a _ (register_read a ha) (bind_is _ _ b _ (register_read b hb) refl))
 
   condition_reads : (c : Condition) (a b : ℕ) (to : Target) → IsRegister a → IsRegister b → IsNamed symbols to
