@@ -43,7 +43,6 @@ EXCEPTIONS = [
     ("crates/lab_costs/src/text.rt", "behind", "behind the code", "the same row as text"),
     ("crates/lab_plans/src/verdicts.rt", "stands", None, "the sentences of the seven rules are exact by contract (specs/Verdicts.antt)"),
     ("crates/lab_terms/src/places.rt", "behind", "no-op behind a load", "the text of a place is exact by contract (specs/Places.antt)"),
-    ("crates/lab_options/src/arguments.rt", "behind", "behind the last cycle", "the message is older than the page"),
 ]
 
 CRATES = ("cmd_", "lab_", "cc_", "mx_run", "mx_serve", "mx_faults", "mx_report", "mx_lab", "mx_cc")

@@ -63,7 +63,7 @@ def toolchain():
 
 def laboratory():
     """Returns of each command of mx_lab the names it takes, what it does, and its options: a range with its default, or words with theirs."""
-    text = text_of("crates/lab_line/src/table.rt")
+    text = text_of("crates/lab_line/src/choices.rt") + text_of("crates/lab_line/src/table.rt")
     known = constants(text)
     texts = dict(re.findall(r'const (\w+): &str = "([^"]*)";', text))
     texts_of = {name: re.findall(r'"(\w+)"', said) for name, said in re.findall(r"static (\w+): \[&str; \d+\] = \[(.*?)\];", text, re.S)}

@@ -50,7 +50,7 @@ refuses 5 "zanderanvil: error: cannot write 'folder'" draw ok.s -o folder
 refuses 1 "bad.s:1:14: error[F8]: undefined label 'nowhere'" compare ok.s bad.s
 refuses 4 "zanderanvil: error: cannot read 'none.s': no such file" compare ok.s none.s
 refuses 2 "zanderanvil: error: --from 9 is more than --to 8" interrupts ok.s --from 9 --to 8
-refuses 2 "zanderanvil: error: --from 500 is behind the last cycle of the undisturbed run, 11" interrupts ok.s --from 500
+refuses 2 "zanderanvil: error: --from 500 is after the last cycle of the undisturbed run, 11" interrupts ok.s --from 500
 refuses 4 "zanderanvil: error: cannot read 'none.s': no such file" interrupts none.s
 refuses 4 "zanderanvil: error: 'big' is too large: a source has at most 4,194,304 bytes" check big
 refuses 4 "zanderanvil: error: 'big' is too large: a source has at most 4,194,304 bytes" disassemble big

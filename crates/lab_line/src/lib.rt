@@ -2,6 +2,7 @@
 //! standard error where they are wrong.
 #![tactic(auto)]
 
+mod choices;
 mod given;
 mod reading;
 mod table;

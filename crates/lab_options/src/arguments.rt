@@ -80,7 +80,7 @@ impl ArgumentFault<'_> {
             }
             ArgumentFault::MoreThanLine => text.push_str("--brings is more than --line"),
             ArgumentFault::AfterLast { from, last } => {
-                let bounded = " is behind the last cycle of the undisturbed run, ";
+                let bounded = " is after the last cycle of the undisturbed run, ";
                 push_after(text, from, bounded, last);
             }
             ArgumentFault::AfterTo { from, to } => push_after(

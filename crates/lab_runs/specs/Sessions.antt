@@ -1,5 +1,6 @@
 -- Sessions of sources that are linked by the plans of a file.
-use Rattle.std.specs.Prelude.{◌≡◌, ◌⊎◌, ℕ, Bool, true, List, codes, cond, ltb, length, min, max, Option, Some, None, is_some, option_and_then, option_map}
+use Rattle.std.specs.Prelude.{◌≡◌, ◌⊎◌, ℕ, Bool, true, List, codes, cond, ltb, length, min, max}
+use Rattle.std.specs.Prelude.{Option, Some, None, is_some, option_and_then, option_map}
 use Rattle.mx_isa.specs.Board.{board}
 use Rattle.mx_io.specs.Shelves.{Told, Counts}
 use Rattle.mx_source.specs.declared.Label.{Label}
@@ -47,7 +48,8 @@ session_files = record { interrupts = Some (codes "interrupts"); input = Some (c
 
 -- the answer is that of the session with an image, stopped at an address, which reads the cycles and the input from a shelf that holds them
 -- and counts no fault
-pub record IsSessionOf (code user_data : List ℕ) (asks : Bool) (address : ℕ) (cycles input : List ℕ) (limits : SessionLimits) (answer : Answer) : Type 0 where
+pub record IsSessionOf (code user_data : List ℕ) (asks : Bool) (address : ℕ) (cycles input : List ℕ) (limits : SessionLimits)
+    (answer : Answer) : Type 0 where
   pub told : Told
   pub before : Counts
   pub after : Counts

@@ -29,7 +29,8 @@ pub record IsSourceOf (told : Told) (name : List ℕ) (before after : Counts) (t
 -- the failure tells the fault of the named file that was not read, or of the text that it gave
 abbrev pub IsNoSource : Told → List ℕ → Counts → Counts → LabFailure → Type 0
 IsNoSource told name before after failure =
-    IsUnread file.Source name before after failure ⊎ ((text : List ℕ) × IsReadAs told file.Source name text before after × IsFaultOf name text failure)
+    IsUnread file.Source name before after failure
+    ⊎ ((text : List ℕ) × IsReadAs told file.Source name text before after × IsFaultOf name text failure)
 
 -- the failure tells the fault of the text, or the branch of the source that it spells which does not reach its target as `run` links it
 abbrev pub IsNoProgramOf : List ℕ → List ℕ → LabFailure → Type 0
@@ -39,4 +40,5 @@ IsNoProgramOf name text failure =
 -- the failure tells the fault of the named file that was not read, or why the text that it gave is not linked
 abbrev pub IsNoProgram : Told → List ℕ → Counts → Counts → LabFailure → Type 0
 IsNoProgram told name before after failure =
-    IsUnread file.Source name before after failure ⊎ ((text : List ℕ) × IsReadAs told file.Source name text before after × IsNoProgramOf name text failure)
+    IsUnread file.Source name before after failure
+    ⊎ ((text : List ℕ) × IsReadAs told file.Source name text before after × IsNoProgramOf name text failure)

@@ -16,7 +16,8 @@ use Rattle.lab_sources.proofs.TooFar.{too_far}
 use Rattle.lab_sources.proofs.building.built_reply.Goals as goal
 
 -- what is known of a reply, and what holds where there is one
-both : (r : Result Reply LabFailure) (P Q : Reply → Type 0) (B : Type 0) → IfOk r P → OnOk r B → ((reply : Reply) → P reply → B → Q reply) → IfOk r Q
+both : (r : Result Reply LabFailure) (P Q : Reply → Type 0) (B : Type 0)
+    → IfOk r P → OnOk r B → ((reply : Reply) → P reply → B → Q reply) → IfOk r Q
 both (Ok reply) P Q B says holds also = also reply says holds
 both (Err failure) P Q B says holds also = tt
 

@@ -19,6 +19,7 @@ returns-in-Scheduler-clause-by g c =
     let told : Told = g.S.Shelf.told c.args.shelf.now in
     let before : Counts = g.S.Shelf.counts c.args.shelf.now in
     let source = c.args.program.source in
+    let chosen = Scheduler c.in-Scheduler.scheduler in
     subst (λ (p : PlansOf). IfOk c.scheduled.result (λ made. IsAskedFor told p source before before made.by)) (sym c.in-Scheduler.is)
-    (weaker c.scheduled.result (λ made. made.by ≡ Scheduler c.in-Scheduler.scheduler) (λ made. (made.by ≡ Scheduler c.in-Scheduler.scheduler) × (before ≡ before))
+    (weaker c.scheduled.result (λ made. made.by ≡ chosen) (λ made. (made.by ≡ chosen) × (before ≡ before))
     (λ made same. (same, refl)) c.scheduled.ensures.by)
