@@ -6,7 +6,7 @@ usage: checks/reading.py            refuses docs/READING.md where it differs fro
        checks/reading.py --names    prints which definitions of each file belong to which part
 
 It begins at every clause of `command_on_system` (crates/mx_command/src/system.rt) and follows each definition by its names
-(definitions.py). It compares: the clauses and the fields that the page quotes; the crates, files, names and lines of each part; the
+(definitions.py); part L begins at the calls of the semantics of compiled assembly. It compares: the clauses and the fields that the page quotes; the crates, files, names and lines of each part; the
 values of constants; the laws of terms that proofs give; and the trusted lines (trusted.py). Lines are those of the definitions that are
 reached and of the comments over them, without imports and empty lines; of a file of code those of the types that are named.
 """
@@ -22,6 +22,8 @@ PAGE = ROOT / "docs/READING.md"
 TOP = ROOT / "crates/mx_command/src/system.rt"
 CALL = "command_on_system"
 HEADLINE = ROOT / "crates/mx_command/specs/Headline.antt"
+# The calls of the semantics of compiled assembly, which the theorem does not speak of: a machine at its start, and a run of it.
+COMPILED = ((ROOT / "crates/cc_meaning/src/machine.rt", "new"), (ROOT / "crates/cc_meaning/src/running.rt", "run"))
 # The types of the call itself, besides those that its clauses name.
 TYPES = (("mx_io", "real", "RealShelf"), ("mx_io", "real", "RealSink"), ("cmd_answer", "status", "Status"))
 # The first stage: what is claimed of `run`, the machine, which words run, and how reports and interrupt files are spelled.
@@ -34,8 +36,9 @@ PARTS = {
     "E": ("mx_lex", "mx_lines", "mx_asm"),
     "F": ("cmd_table", "cmd_line"),
 }
-# The later stages: the assembler, the command line, two programs, stops, modules, shortest plans, and the other commands.
-LATER = "EFGHIJK"
+# The later stages: the assembler, the command line, two programs, stops, modules, shortest plans, the other commands, and the semantics of
+# compiled assembly.
+LATER = "EFGHIJKL"
 COMMANDS = {"Share": "G", "Debug": "H", "Join": "I", "Best": "J", "Meaning": "K", "Build": "K", "Exec": "K", "Listing": "K", "Gen": "K",
             "Soak": "K", "Migrate": "K"}
 FIELDS = {"pair": "G", "stops": "H", "modules": "I", "best": "J"}
@@ -79,19 +82,26 @@ def aside_part(crate, module):
     return "F" if crate in PARTS["F"] else "E"
 
 
+def named_in(path, call):
+    """Yields what the clauses of a call name and its file imports, as `Walk` begins with it."""
+    imports = imports_of(path.read_text().splitlines())
+    for _, _, text in clauses_of(path, call):
+        for first, _, rest in {word.partition(".") for word in NAME.findall(text)}:
+            if first in imports:
+                crate, folder, module, name = imports[first]
+                yield crate, folder, module, name or rest, call
+
+
 def walked():
     """Follows all clauses, stage by stage."""
     walk = Walk(SLICES, {term: [(*law[2], law[1])] for term, law in LAWS.items()})
-    imports = imports_of(TOP.read_text().splitlines())
-    start = [("mx_io" if crate == "mx_io" else crate, "specs", f"declared.{module}.{name}", name, CALL) for crate, module, name in TYPES]
-    for _, _, text in clauses_of(TOP, CALL):
-        names = {word.partition(".")[0] for word in NAME.findall(text)}
-        start += [(*imports[name], CALL) for name in names if name in imports]
-    walk.stage("ABCD", first_part, start)
+    start = [(crate, "specs", f"declared.{module}.{name}", name, CALL) for crate, module, name in TYPES]
+    walk.stage("ABCD", first_part, [*start, *named_in(TOP, CALL)])
     walk.stage("E", aside_part)
     walk.stage("F", lambda crate, module: "F")
-    for part in LATER[2:]:
+    for part in LATER[2:-1]:
         walk.stage(part, lambda crate, module, own=part: own)
+    walk.stage(LATER[-1], lambda crate, module: LATER[-1], [it for path, call in COMPILED for it in named_in(path, call)])
     return walk
 
 
