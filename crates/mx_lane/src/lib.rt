@@ -3,5 +3,7 @@
 
 mod lane;
 mod queue;
+mod turning;
+mod window;
 
 pub use lane::Lane;
