@@ -3,7 +3,7 @@
 
 mod lane;
 mod queue;
-mod turning;
+mod turns;
 mod window;
 
 pub use lane::Lane;
