@@ -3,7 +3,7 @@ use Rattle.std.proofs.Common.{arith, ◌≡◌, ◌<◌, ◌≤◌, ◌+◌, ◌
 use Rattle.std.specs.Prelude.{nat_lt}
 use Rattle.std.proofs.lemmas.Bool.Decides.{nat_tests}
 use Rattle.mx_icache.specs.Residency.{resident}
-use Rattle.mx_lane.specs.declared.queue.Window.{Window}
+use Rattle.mx_lane.specs.declared.window.Window.{Window}
 use Rattle.mx_lane.specs.declared.queue.Queue.{Queue}
 use Rattle.mx_lane.specs.Lanes.{IsKnown, AreKnown}
 

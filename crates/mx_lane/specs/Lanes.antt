@@ -17,7 +17,7 @@ use Rattle.mx_pcchain.specs.Modes.{psw_restored}
 use Rattle.mx_turn.specs.Cycle.{MachineState, shifted, committed, decided_by, cycled, answer}
 use Rattle.mx_lane.specs.declared.lane.Lane.{Lane}
 use Rattle.mx_lane.specs.declared.queue.Queue.{Queue}
-use Rattle.mx_lane.specs.declared.queue.Window.{Window}
+use Rattle.mx_lane.specs.declared.window.Window.{Window}
 
 -- the state that it keeps, with what it does not keep
 abbrev pub lane_of : Lane → Contents → List ℕ → Words → Latches → Counted → MachineState

@@ -5,7 +5,8 @@ ghost use Rattle.mx_turn.specs.Cycle.{MachineState as State};
 ghost use Rattle.mx_lane.specs.declared.queue.Queue.{Queue};
 ghost use Rattle.mx_lane.specs.Lanes.{joined, quietly, later_bytes, InTurn};
 
-use crate::queue::{Queue, Window};
+use crate::queue::Queue;
+use crate::window::Window;
 use mx_board::Board;
 use mx_icache::FetchCache;
 use mx_pcchain::Psw;

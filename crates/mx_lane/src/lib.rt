@@ -3,5 +3,7 @@
 
 mod lane;
 mod queue;
+mod turns;
+mod window;
 
 pub use lane::Lane;

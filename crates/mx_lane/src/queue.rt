@@ -1,40 +1,27 @@
 //! Turns without a request, with what changes in each of them apart from the registers.
-ghost use Rattle.std.specs.Prelude.{◌≡◌, ◌<◌, ◌≤◌, ◌+◌, ◌-◌, ◌^◌, ◌++◌, ◌∷◌, ◌&&◌, not, false, true, ℕ, List, IfOk, OnOk, IfSome, IfNone, slice_index};
+ghost use Rattle.std.specs.Prelude.{◌≡◌, ◌<◌, ◌≤◌, ◌+◌, ◌-◌, ◌^◌, ◌∷◌, ◌&&◌, not, false, true, ℕ, List, IfSome, IfNone, slice_index};
 ghost use Rattle.mx_isa.specs.Words.{Words, reg};
 ghost use Rattle.mx_isa.specs.Views.{dest, is_halt};
-ghost use Rattle.mx_delay.specs.Delay.{Code, next_of, idle};
+ghost use Rattle.mx_delay.specs.Delay.{Code, next_of};
 ghost use Rattle.mx_icache.specs.Residency.{resident};
 ghost use Rattle.mx_board.specs.Contents.{Contents};
 ghost use Rattle.mx_turn.specs.declared.latches.Latches.{Latches as Shown};
 ghost use Rattle.mx_turn.specs.Counted.{Counted, after_turn};
-ghost use Rattle.mx_turn.specs.Decoded.{ShiftFits, code_in};
+ghost use Rattle.mx_turn.specs.Decoded.{ShiftFits};
 ghost use Rattle.mx_turn.specs.Stages.{fetch_of, live, squash};
 ghost use Rattle.mx_turn.specs.System.{pops};
-ghost use Rattle.mx_turn.specs.Cycle.{MachineState as State, shifted, committed, commit_byte};
-ghost use Rattle.mx_lane.specs.Lanes.{lane_of, joined, lead_of, back, MovesBy, DecidesBy, turn_cycles, turn_counts, quietly, later_bytes, InTurn, IsKnown, AreKnown, IsCounting, after_turns, caught_up};
+ghost use Rattle.mx_turn.specs.Cycle.{shifted, committed, commit_byte};
+ghost use Rattle.mx_lane.specs.Lanes.{lane_of, joined, lead_of, back, MovesBy, DecidesBy, turn_cycles, turn_counts, AreKnown, IsCounting, after_turns, caught_up};
 
 use crate::Lane;
+use crate::window::{Window, window_of};
 use mx_board::Board;
 use mx_icache::FetchCache;
 use mx_isa::Inst;
-use mx_text::push_byte;
-use mx_turn::{
-    Coming, Counts, Decided, Decoded, Held, decide, led, popped, read, restored, squash,
-};
-use std::alloc::AllocError;
+use mx_turn::{Coming, Counts, Decided, Held, decide, led, popped, read, restored, squash};
 
 /// The cycles of the longest turn, with the stalled ones of its fetch.
-const LONGEST_TURN: u64 = 3;
-
-/// The words of a line of the cache. A window begins with one, if these are resident.
-const LINE_WORDS: u32 = 16;
-
-/// So many words from an address on, which are resident.
-#[derive(Clone, Copy)]
-pub struct Window {
-    pub low: u32,
-    pub words: u32,
-}
+pub(crate) const LONGEST_TURN: u64 = 3;
 
 // Apart from the registers, of which any may be written, the compiler keeps these where the processor reads them at once.
 /// What of a lane changes in each turn: the fetches in the stages, the counts, and whether the fetch of the turn missed; and which
@@ -61,30 +48,6 @@ pub struct Queue {
 struct Lead {
     target: Option<u32>,
     cancels: bool,
-}
-
-impl Window {
-    /// No word.
-    pub fn empty() -> Window
-        ensures { result.words ≡ 0 }
-    {
-        Window { low: 0, words: 0 }
-    }
-
-    // Whether it has an address, of which the cache then need not be asked.
-    #[inline(always)]
-    #[tactic(auto, using(crate::proofs::Windows::has_here, crate::proofs::Windows::has_kept))]
-    fn has<C: FetchCache>(&self, address: u32, _cache: &C) -> bool
-        requires known { IsKnown C.holds self.now _cache.now }
-        ensures resident { result ≡ true → (past : List ℕ) → C.holds _cache.now past → resident past address ≡ true }
-        ensures keeps { result ≡ true → (past : List ℕ) → C.holds _cache.now past → C.holds _cache.now (address ∷ past) }
-        ensures some { result ≡ true → 0 < self.now.words }
-    {
-        if address < self.low {
-            return false;
-        }
-        address - self.low < self.words
-    }
 }
 
 impl Queue {
@@ -146,7 +109,7 @@ impl Queue {
     // The stages move on, where a transfer in ALU leads. Answers whether it cancels the two words behind it; none, and nothing is
     // done, where it goes back to a saved fetch; nor of a halt.
     #[inline(always)]
-    fn follow(&mut self, inst: &Inst, lane: &Lane) -> Option<bool>
+    pub(crate) fn follow(&mut self, inst: &Inst, lane: &Lane) -> Option<bool>
         ensures state { IfSome result (λ c. DecidesBy inst.now (lead_of inst.now self.old lane.now) self.old lane.now self.new lane.now) }
         ensures cancels { IfSome result (λ c. c ≡ (lead_of inst.now self.old lane.now).cancels) }
         ensures next { IfSome result (λ c. self.new.next ≡ fetch_of (next_of (lead_of inst.now self.old lane.now).target self.old.next.address)) }
@@ -242,7 +205,7 @@ impl Queue {
 
     // The same of any word in ALU. Most are no transfers.
     #[inline(always)]
-    fn step(&mut self, inst: &Inst, lane: &mut Lane) -> Option<bool>
+    pub(crate) fn step(&mut self, inst: &Inst, lane: &mut Lane) -> Option<bool>
         ensures state { IfSome result (λ c. DecidesBy inst.now (lead_of inst.now self.old lane.old) self.old lane.old self.new lane.new) }
         ensures cancels { IfSome result (λ c. c ≡ (lead_of inst.now self.old lane.old).cancels) }
         ensures counts { self.new.counts ≡ self.old.counts }
@@ -263,7 +226,7 @@ impl Queue {
 
     // The word in MEM commits.
     #[inline(always)]
-    fn commit(&self, inst: &Inst, lane: &mut Lane, board: &mut Board) -> Option<u8>
+    pub(crate) fn commit(&self, inst: &Inst, lane: &mut Lane, board: &mut Board) -> Option<u8>
         requires fits { ShiftFits inst.now }
         requires on { is_halt inst.now ≡ false }
         ensures state { (code : Code) (past : List ℕ) (before : Words) (shown : Shown) (counts : Counted) → inst.now ≡ live code self.now.mem
@@ -387,7 +350,7 @@ impl Queue {
 
     // The turns are counted.
     #[inline(always)]
-    fn settle(&mut self, left: u64)
+    pub(crate) fn settle(&mut self, left: u64)
         requires counting { IsCounting left self.old }
         ensures { self.new ≡ record self.old { counts = after_turns (self.old.mark - left) self.old.counts; mark = left } }
     {
@@ -483,7 +446,7 @@ impl Queue {
 
     // The turn is counted, with the stalled cycles of the next fetch. Answers how many cycles these are.
     #[inline(always)]
-    fn count<C: FetchCache>(&mut self, left: u64, cancels: bool, cache: &mut C) -> u64
+    pub(crate) fn count<C: FetchCache>(&mut self, left: u64, cancels: bool, cache: &mut C) -> u64
         requires counting { IsCounting left self.old }
         requires left { 3 ≤ left }
         requires known { AreKnown C.holds self.old cache.old }
@@ -513,7 +476,7 @@ impl Queue {
     }
 
     // Whether the fetch of the turn was a hit, and the next one is in the window, and not a saved one.
-    fn is_near<C: FetchCache>(&self, inst: &Inst, lane: &Lane, cache: &C) -> bool
+    pub(crate) fn is_near<C: FetchCache>(&self, inst: &Inst, lane: &Lane, cache: &C) -> bool
         requires known { AreKnown C.holds self.now cache.now }
         ensures resident { result ≡ true → (past : List ℕ) → C.holds cache.now past
             → resident past (next_of (lead_of inst.now self.now lane.now).target self.now.next.address) ≡ true }
@@ -532,7 +495,7 @@ impl Queue {
     }
 
     // The turn is counted, where the next fetch is resident. Answers its cycles, as above.
-    fn count_short<C: FetchCache>(&mut self, left: u64, cancels: bool, _cache: &C) -> u64
+    pub(crate) fn count_short<C: FetchCache>(&mut self, left: u64, cancels: bool, _cache: &C) -> u64
         requires counting { IsCounting left self.old }
         requires left { 1 ≤ left }
         requires known { AreKnown C.holds self.old _cache.now }
@@ -559,361 +522,6 @@ impl Queue {
         self.count_later(left, cancels);
         1
     }
-
-    // One turn of a word, with the stalled cycles of the next fetch. Answers how many cycles they are; 0, and nothing is done,
-    // where the word is a halt.
-    #[inline(always)]
-    fn turn_of<C: FetchCache>(
-        &mut self,
-        left: u64,
-        inst: &Inst,
-        lane: &mut Lane,
-        board: &mut Board,
-        cache: &mut C,
-        console: &mut Vec<u8>,
-    ) -> Result<u64, AllocError>
-        requires counting { IsCounting left self.old }
-        requires left { 3 ≤ left }
-        requires fits { ShiftFits inst.now }
-        requires known { AreKnown C.holds self.old cache.old }
-        ensures few { IfOk result (λ n. n ≤ 3) }
-        ensures within { IfOk result (λ n. left - n ≤ self.new.mark) }
-        ensures total { OnOk result (self.new.counts.cycles + self.new.mark ≡ self.old.counts.cycles + self.old.mark) }
-        ensures input { board.new.input ≡ board.old.input }
-        ensures known { OnOk result (AreKnown C.holds self.new cache.new) }
-        ensures next { IfOk result (λ n. (code : Code) (m : State) → inst.now ≡ live code self.old.alu
-            → InTurn C.holds code m (joined (caught_up left self.old) lane.old) board.old cache.old
-            → InTurn C.holds code (quietly code board.old.input n m) (joined (caught_up (left - n) self.new) lane.new) board.new cache.new) }
-        ensures console { IfOk result (λ n. (code : Code) (m : State) → inst.now ≡ live code self.old.alu
-            → InTurn C.holds code m (joined (caught_up left self.old) lane.old) board.old cache.old
-            → console.new.items ≡ console.old.items ++ later_bytes code board.old.input n m) }
-    {
-        let Some(cancels) = self.step(inst, lane) else {
-            return Ok(0);
-        };
-        let byte = self.commit(inst, lane, board);
-        push_byte(console, byte)?;
-        Ok(self.count(left, cancels, cache))
-    }
-
-    // The same of words that are rare: a call of its own keeps the way of the others short.
-    #[inline(never)]
-    fn turn_apart<C: FetchCache>(
-        &mut self,
-        left: u64,
-        inst: &Inst,
-        lane: &mut Lane,
-        board: &mut Board,
-        cache: &mut C,
-        console: &mut Vec<u8>,
-    ) -> Result<u64, AllocError>
-        requires counting { IsCounting left self.old }
-        requires left { 3 ≤ left }
-        requires fits { ShiftFits inst.now }
-        requires known { AreKnown C.holds self.old cache.old }
-        ensures few { IfOk result (λ n. n ≤ 3) }
-        ensures within { IfOk result (λ n. left - n ≤ self.new.mark) }
-        ensures total { OnOk result (self.new.counts.cycles + self.new.mark ≡ self.old.counts.cycles + self.old.mark) }
-        ensures input { board.new.input ≡ board.old.input }
-        ensures known { OnOk result (AreKnown C.holds self.new cache.new) }
-        ensures next { IfOk result (λ n. (code : Code) (m : State) → inst.now ≡ live code self.old.alu
-            → InTurn C.holds code m (joined (caught_up left self.old) lane.old) board.old cache.old
-            → InTurn C.holds code (quietly code board.old.input n m) (joined (caught_up (left - n) self.new) lane.new) board.new cache.new) }
-        ensures console { IfOk result (λ n. (code : Code) (m : State) → inst.now ≡ live code self.old.alu
-            → InTurn C.holds code m (joined (caught_up left self.old) lane.old) board.old cache.old
-            → console.new.items ≡ console.old.items ++ later_bytes code board.old.input n m) }
-    {
-        self.turn_of(left, inst, lane, board, cache, console)
-    }
-
-    // The same where the word does nothing: its instruction is made in a call of its own, and so not in each turn.
-    #[inline(never)]
-    fn turn_idle<C: FetchCache>(
-        &mut self,
-        left: u64,
-        lane: &mut Lane,
-        board: &mut Board,
-        cache: &mut C,
-        console: &mut Vec<u8>,
-    ) -> Result<u64, AllocError>
-        requires counting { IsCounting left self.old }
-        requires left { 3 ≤ left }
-        requires known { AreKnown C.holds self.old cache.old }
-        ensures few { IfOk result (λ n. n ≤ 3) }
-        ensures within { IfOk result (λ n. left - n ≤ self.new.mark) }
-        ensures total { OnOk result (self.new.counts.cycles + self.new.mark ≡ self.old.counts.cycles + self.old.mark) }
-        ensures input { board.new.input ≡ board.old.input }
-        ensures known { OnOk result (AreKnown C.holds self.new cache.new) }
-        ensures next { IfOk result (λ n. (code : Code) (m : State) → idle ≡ live code self.old.alu
-            → InTurn C.holds code m (joined (caught_up left self.old) lane.old) board.old cache.old
-            → InTurn C.holds code (quietly code board.old.input n m) (joined (caught_up (left - n) self.new) lane.new) board.new cache.new) }
-        ensures console { IfOk result (λ n. (code : Code) (m : State) → idle ≡ live code self.old.alu
-            → InTurn C.holds code m (joined (caught_up left self.old) lane.old) board.old cache.old
-            → console.new.items ≡ console.old.items ++ later_bytes code board.old.input n m) }
-    {
-        self.turn_of(left, &Inst::default(), lane, board, cache, console)
-    }
-
-    // The same, with a way of its own for each kind of word that is frequent: the compiler then tests the kind once, also
-    // since it is a copy that it tests.
-    #[inline(always)]
-    fn turn_by_kind<C: FetchCache>(
-        &mut self,
-        left: u64,
-        inst: &Inst,
-        lane: &mut Lane,
-        board: &mut Board,
-        cache: &mut C,
-        console: &mut Vec<u8>,
-    ) -> Result<u64, AllocError>
-        requires counting { IsCounting left self.old }
-        requires left { 3 ≤ left }
-        requires fits { ShiftFits inst.now }
-        requires known { AreKnown C.holds self.old cache.old }
-        ensures few { IfOk result (λ n. n ≤ 3) }
-        ensures within { IfOk result (λ n. left - n ≤ self.new.mark) }
-        ensures total { OnOk result (self.new.counts.cycles + self.new.mark ≡ self.old.counts.cycles + self.old.mark) }
-        ensures input { board.new.input ≡ board.old.input }
-        ensures known { OnOk result (AreKnown C.holds self.new cache.new) }
-        ensures next { IfOk result (λ n. (code : Code) (m : State) → inst.now ≡ live code self.old.alu
-            → InTurn C.holds code m (joined (caught_up left self.old) lane.old) board.old cache.old
-            → InTurn C.holds code (quietly code board.old.input n m) (joined (caught_up (left - n) self.new) lane.new) board.new cache.new) }
-        ensures console { IfOk result (λ n. (code : Code) (m : State) → inst.now ≡ live code self.old.alu
-            → InTurn C.holds code m (joined (caught_up left self.old) lane.old) board.old cache.old
-            → console.new.items ≡ console.old.items ++ later_bytes code board.old.input n m) }
-    {
-        let copy = *inst;
-        match inst {
-            Inst::Load { .. } => self.turn_of(left, &copy, lane, board, cache, console),
-            Inst::Store { .. } => self.turn_of(left, &copy, lane, board, cache, console),
-            Inst::Branch { .. } => self.turn_of(left, &copy, lane, board, cache, console),
-            Inst::Compute { .. } => self.turn_of(left, &copy, lane, board, cache, console),
-            Inst::Addi { .. } => self.turn_of(left, &copy, lane, board, cache, console),
-            Inst::Jspci { .. } => self.turn_of(left, &copy, lane, board, cache, console),
-            Inst::MoveFrom { .. } => self.turn_of(left, &copy, lane, board, cache, console),
-            Inst::MoveTo { .. } => self.turn_of(left, &copy, lane, board, cache, console),
-            _ => self.turn_apart(left, inst, lane, board, cache, console),
-        }
-    }
-
-    // The same of the word in ALU. A squashed one, or one beyond the code, does nothing.
-    #[inline(always)]
-    fn turn<C: FetchCache>(
-        &mut self,
-        left: u64,
-        lane: &mut Lane,
-        code: &Decoded,
-        board: &mut Board,
-        cache: &mut C,
-        console: &mut Vec<u8>,
-    ) -> Result<u64, AllocError>
-        requires counting { IsCounting left self.old }
-        requires left { 3 ≤ left }
-        requires known { AreKnown C.holds self.old cache.old }
-        ensures few { IfOk result (λ n. n ≤ 3) }
-        ensures within { IfOk result (λ n. left - n ≤ self.new.mark) }
-        ensures total { OnOk result (self.new.counts.cycles + self.new.mark ≡ self.old.counts.cycles + self.old.mark) }
-        ensures input { board.new.input ≡ board.old.input }
-        ensures known { OnOk result (AreKnown C.holds self.new cache.new) }
-        ensures next { IfOk result (λ n. (m : State) → InTurn C.holds (code_in code.now) m (joined (caught_up left self.old) lane.old) board.old cache.old
-            → InTurn C.holds (code_in code.now) (quietly (code_in code.now) board.old.input n m)
-            (joined (caught_up (left - n) self.new) lane.new) board.new cache.new) }
-        ensures console { IfOk result (λ n. (m : State) → InTurn C.holds (code_in code.now) m (joined (caught_up left self.old) lane.old) board.old cache.old
-            → console.new.items ≡ console.old.items ++ later_bytes (code_in code.now) board.old.input n m) }
-    {
-        match code.get(self.alu) {
-            Some(inst) => self.turn_by_kind(left, inst, lane, board, cache, console),
-            None => self.turn_idle(left, lane, board, cache, console),
-        }
-    }
-
-    // One turn of a word with room for one cycle alone: 0, and nothing is done, also where the next fetch is not in the window, or is a
-    // saved one.
-    fn short_turn<C: FetchCache>(
-        &mut self,
-        left: u64,
-        inst: &Inst,
-        lane: &mut Lane,
-        board: &mut Board,
-        cache: &C,
-        console: &mut Vec<u8>,
-    ) -> Result<u64, AllocError>
-        requires counting { IsCounting left self.old }
-        requires left { 1 ≤ left }
-        requires fits { ShiftFits inst.now }
-        requires known { AreKnown C.holds self.old cache.now }
-        ensures few { IfOk result (λ n. n ≤ 1) }
-        ensures within { IfOk result (λ n. left - n ≤ self.new.mark) }
-        ensures total { OnOk result (self.new.counts.cycles + self.new.mark ≡ self.old.counts.cycles + self.old.mark) }
-        ensures input { board.new.input ≡ board.old.input }
-        ensures known { OnOk result (AreKnown C.holds self.new cache.now) }
-        ensures next { IfOk result (λ n. (code : Code) (m : State) → inst.now ≡ live code self.old.alu
-            → InTurn C.holds code m (joined (caught_up left self.old) lane.old) board.old cache.now
-            → InTurn C.holds code (quietly code board.old.input n m) (joined (caught_up (left - n) self.new) lane.new) board.new cache.now) }
-        ensures console { IfOk result (λ n. (code : Code) (m : State) → inst.now ≡ live code self.old.alu
-            → InTurn C.holds code m (joined (caught_up left self.old) lane.old) board.old cache.now
-            → console.new.items ≡ console.old.items ++ later_bytes code board.old.input n m) }
-    {
-        if !self.is_near(inst, lane, cache) {
-            return Ok(0);
-        }
-        let Some(cancels) = self.follow(inst, lane) else {
-            return Ok(0);
-        };
-        let byte = self.commit(inst, lane, board);
-        push_byte(console, byte)?;
-        Ok(self.count_short(left, cancels, cache))
-    }
-
-    // The same of the word in ALU. Few turns are among the last: a call of its own keeps the way of the others short.
-    #[inline(never)]
-    fn last_turn<C: FetchCache>(
-        &mut self,
-        left: u64,
-        lane: &mut Lane,
-        code: &Decoded,
-        board: &mut Board,
-        cache: &mut C,
-        console: &mut Vec<u8>,
-    ) -> Result<u64, AllocError>
-        requires counting { IsCounting left self.old }
-        requires left { 1 ≤ left }
-        requires known { AreKnown C.holds self.old cache.old }
-        ensures few { IfOk result (λ n. n ≤ 1) }
-        ensures within { IfOk result (λ n. left - n ≤ self.new.mark) }
-        ensures total { OnOk result (self.new.counts.cycles + self.new.mark ≡ self.old.counts.cycles + self.old.mark) }
-        ensures input { board.new.input ≡ board.old.input }
-        ensures known { OnOk result (AreKnown C.holds self.new cache.new) }
-        ensures next { IfOk result (λ n. (m : State) → InTurn C.holds (code_in code.now) m (joined (caught_up left self.old) lane.old) board.old cache.old
-            → InTurn C.holds (code_in code.now) (quietly (code_in code.now) board.old.input n m)
-            (joined (caught_up (left - n) self.new) lane.new) board.new cache.new) }
-        ensures console { IfOk result (λ n. (m : State) → InTurn C.holds (code_in code.now) m (joined (caught_up left self.old) lane.old) board.old cache.old
-            → console.new.items ≡ console.old.items ++ later_bytes (code_in code.now) board.old.input n m) }
-    {
-        match code.get(self.alu) {
-            Some(inst) => self.short_turn(left, inst, lane, board, cache, console),
-            None => self.short_turn(left, &Inst::default(), lane, board, cache, console),
-        }
-    }
-
-    // A turn, by how many cycles are left.
-    #[inline(always)]
-    fn turn_within<C: FetchCache>(
-        &mut self,
-        left: u64,
-        lane: &mut Lane,
-        code: &Decoded,
-        board: &mut Board,
-        cache: &mut C,
-        console: &mut Vec<u8>,
-    ) -> Result<u64, AllocError>
-        requires counting { IsCounting left self.old }
-        requires left { 1 ≤ left }
-        requires known { AreKnown C.holds self.old cache.old }
-        ensures few { IfOk result (λ n. n ≤ left) }
-        ensures within { IfOk result (λ n. left - n ≤ self.new.mark) }
-        ensures total { OnOk result (self.new.counts.cycles + self.new.mark ≡ self.old.counts.cycles + self.old.mark) }
-        ensures input { board.new.input ≡ board.old.input }
-        ensures known { OnOk result (AreKnown C.holds self.new cache.new) }
-        ensures next { IfOk result (λ n. (m : State) → InTurn C.holds (code_in code.now) m (joined (caught_up left self.old) lane.old) board.old cache.old
-            → InTurn C.holds (code_in code.now) (quietly (code_in code.now) board.old.input n m)
-            (joined (caught_up (left - n) self.new) lane.new) board.new cache.new) }
-        ensures console { IfOk result (λ n. (m : State) → InTurn C.holds (code_in code.now) m (joined (caught_up left self.old) lane.old) board.old cache.old
-            → console.new.items ≡ console.old.items ++ later_bytes (code_in code.now) board.old.input n m) }
-    {
-        if left >= LONGEST_TURN {
-            return self.turn(left, lane, code, board, cache, console);
-        }
-        self.last_turn(left, lane, code, board, cache, console)
-    }
-
-    // Turns without a request, while there is room for them. Answers how many cycles are left.
-    #[inline(always)]
-    fn turns<C: FetchCache>(
-        &mut self,
-        most: u64,
-        lane: &mut Lane,
-        code: &Decoded,
-        board: &mut Board,
-        cache: &mut C,
-        console: &mut Vec<u8>,
-    ) -> Result<u64, AllocError>
-        requires counting { IsCounting most self.old }
-        requires known { AreKnown C.holds self.old cache.old }
-        ensures most { IfOk result (λ left. left ≤ most) }
-        ensures within { IfOk result (λ left. left ≤ self.new.mark) }
-        ensures total { OnOk result (self.new.counts.cycles + self.new.mark ≡ self.old.counts.cycles + self.old.mark) }
-        ensures input { OnOk result (board.new.input ≡ board.old.input) }
-        ensures next { IfOk result (λ left. (m : State) → InTurn C.holds (code_in code.now) m (joined (caught_up most self.old) lane.old) board.old cache.old
-            → InTurn C.holds (code_in code.now) (quietly (code_in code.now) board.old.input (most - left) m)
-            (joined (caught_up left self.new) lane.new) board.new cache.new) }
-        ensures console { IfOk result (λ left. (m : State)
-            → InTurn C.holds (code_in code.now) m (joined (caught_up most self.old) lane.old) board.old cache.old
-            → console.new.items ≡ console.old.items ++ later_bytes (code_in code.now) board.old.input (most - left) m) }
-    {
-        let mut left: u64 = most;
-        while left > 0 {
-            let cycles = self.turn_within(left, lane, code, board, cache, console)?;
-            if cycles == 0 {
-                return Ok(left);
-            }
-            left -= cycles;
-        }
-        Ok(left)
-    }
-
-    /// Turns without a request, of at most so many cycles, up to one whose word in ALU is a halt. Answers
-    /// how many cycles they are.
-    #[inline(always)]
-    pub fn go<C: FetchCache>(
-        &mut self,
-        most: u64,
-        lane: &mut Lane,
-        code: &Decoded,
-        board: &mut Board,
-        cache: &mut C,
-        console: &mut Vec<u8>,
-    ) -> Result<u64, AllocError>
-        requires room { self.old.counts.cycles + most ≤ 2 ^ 63 }
-        requires known { AreKnown C.holds self.old cache.old }
-        requires mark { self.old.mark ≡ most }
-        ensures most { IfOk result (λ n. n ≤ most) }
-        ensures risen { IfOk result (λ n. self.new.counts.cycles ≡ self.old.counts.cycles + n) }
-        ensures input { OnOk result (board.new.input ≡ board.old.input) }
-        ensures next { IfOk result (λ n. (m : State) → InTurn C.holds (code_in code.now) m (joined self.old lane.old) board.old cache.old
-            → InTurn C.holds (code_in code.now) (quietly (code_in code.now) board.old.input n m) (joined self.new lane.new) board.new cache.new) }
-        ensures console { IfOk result (λ n. (m : State) → InTurn C.holds (code_in code.now) m (joined self.old lane.old) board.old cache.old
-            → console.new.items ≡ console.old.items ++ later_bytes (code_in code.now) board.old.input n m) }
-    {
-        let left = self.turns(most, lane, code, board, cache, console)?;
-        self.settle(left);
-        Ok(most - left)
-    }
-}
-
-// So many words as are known to be resident, from an address on.
-#[inline(always)]
-fn window_from<C: FetchCache>(address: u32, cache: &C) -> Window
-    requires { address < 2 ^ 31 }
-    ensures { IsKnown C.holds result cache.now }
-{
-    Window {
-        low: address,
-        words: cache.reach(address),
-    }
-}
-
-// The resident words of a line, or those from an address on.
-#[inline(always)]
-fn window_of<C: FetchCache>(address: u32, cache: &C) -> Window
-    requires { address < 2 ^ 31 }
-    ensures { IsKnown C.holds result cache.now }
-{
-    let line = window_from(address / LINE_WORDS * LINE_WORDS, cache);
-    if line.has(address, cache) {
-        return line;
-    }
-    window_from(address, cache)
 }
 
 // A stage, squashed where a branch cancels it.

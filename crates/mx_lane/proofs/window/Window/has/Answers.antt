@@ -1,6 +1,6 @@
 use Rattle.std.proofs.Common.{◌≤◌, ◌-◌, arith}
 use Rattle.mx_lane.proofs.Windows.{has_kept, less}
-use Rattle.mx_lane.proofs.queue.Window.has.Goals as goal
+use Rattle.mx_lane.proofs.window.Window.has.Goals as goal
 
 pub returns-clause-keeps : goal.returns-clause-keeps
 returns-clause-keeps g c = λ e past h.
