@@ -1,0 +1,25 @@
+//! Laws over the definitions.
+ghost use Rattle.std.specs.Prelude.{◌≡◌, ◌++◌, ◌≤◌, ℕ, List, All};
+ghost use Rattle.mx_source.specs.SourceValue.{SourceValue};
+ghost use Rattle.mx_lines.specs.Instructions.{Labels};
+ghost use Rattle.mx_lines.specs.declared.labels.TheConstants.{PAST_END};
+ghost use Rattle.mx_asm.specs.Texts.{ReadsAs};
+ghost use Rattle.cc_program.specs.declared.program.Program.{Program};
+ghost use Rattle.cc_emit.specs.declared.line.Line.{Line};
+ghost use Rattle.cc_emit.specs.Sources.{code_text};
+ghost use Rattle.law_emit.specs.Reading.{LineFits, LineReads};
+ghost use Rattle.law_emit.specs.Lines.{IsSourceOf};
+
+/// The text of a line is one line, which the assembler reads as the statement and the labels that the line is, whatever the labels of
+/// the whole text are; a name that is no such label has the same fault for both. A comment is no statement, and has no line if its file
+/// has no name or a long one. A line of a routine is a text already, so that it is whatever the assembler reads of it.
+pub fn line_reads_back()
+    ensures { (p : Program) (line : Line) → LineFits p line → (labels : Labels) → LineReads labels p line }
+{}
+
+/// A text that begins with the code of a translation and reads as a source: this has the labels of the lines, and the statements that the
+/// lines are by the labels of the whole text, before those of the rest.
+pub fn code_reads_back()
+    ensures { (p : Program) (lines : List Line) → All (LineFits p) lines → (address end : ℕ) → address ≤ PAST_END → (rest : List ℕ)
+        → (source : SourceValue) → ReadsAs address end (code_text p lines ++ rest) source → IsSourceOf p lines address rest source }
+{}
