@@ -1,7 +1,9 @@
 pub mod Alone
 pub mod Lines
 pub mod Comments
+pub mod Names
 pub mod Operands
 pub mod Places
+pub mod Routines
 pub mod Splitting
 pub mod Statements

@@ -48,9 +48,10 @@ use Rattle.law_emit.proofs.Operands.{Register, Immediate, Count, Memory, Held as
 use Rattle.cc_emit.specs.Statements.{target_label, word_label, condition_text}
 use Rattle.cc_emit.specs.Lines.{file_name, is_short, plain_text, transfer_text, constant_text}
 use Rattle.law_emit.specs.Statements as own
-use Rattle.law_emit.specs.Reading.{ReadsAs, LineReads, LineFits, PlainFits, TransferFits, WrittenFits, IsNamed, IsWordNamed, line_names, line_statement, statement_count, code_at}
+use Rattle.law_emit.specs.Reading.{ReadsAs, LineReads, LineFits, PlainFits, TransferFits, WrittenFits, line_names, line_statement, statement_count, code_at}
 use Rattle.law_emit.proofs.Alone.{alone, from_clean}
 use Rattle.law_emit.proofs.Comments.{told_reads}
+use Rattle.law_emit.proofs.Names.{word_named, target_named}
 use Rattle.law_emit.proofs.Places.{behind_code, no_words, one_count, code_effect}
 use Rattle.law_emit.proofs.Splitting.{OperandFits, OperandsFit, operand_words, more_words, statement_line, statement_of, line_splits, words_of_line, no_names, all_words, stays_code, halt_words}
 
@@ -76,6 +77,13 @@ effect_is K name mnemonic words r undotted named h =
     ap (λ t. cond t (directed K section.Code (directive_named name) words) (instruction K name words >>= λ s. in_code section.Code s)) undotted
     ∙ ap (λ o. with_mnemonic K o words >>= λ s. in_code section.Code s) named
     ∙ ap (λ r. r >>= λ s. in_code section.Code s) h
+
+-- the label of a place, or of a word that the translation adds, is a name of the language
+abbrev IsNamed : List Symbol → Target → Type 0
+IsNamed symbols to = is_name (target_label symbols to) ≡ true
+
+abbrev IsWordNamed : Held → Type 0
+IsWordNamed word = is_name (word_label word) ≡ true
 
 -- a text is read as a statement
 abbrev pub Says : Labels → List ℕ → Result Statement Fault → Type 0
@@ -220,10 +228,10 @@ module _ (K : Labels) (symbols : List Symbol) where
 
   transfer_reads : (transfer : Transfer) → TransferFits symbols transfer → Says K (transfer_text symbols transfer) (own.transfer_statement K symbols transfer)
   unfolding spelled_by goto call call_register jump mnemonic_named mnemonics
-  transfer_reads (Branch condition a b to) h = condition_reads condition a b to h.0 h.1 h.2
-  transfer_reads (Jump to) h = reads (codes "b") m.Goto (Place to) [] _ refl refl refl h tt refl
+  transfer_reads (Branch condition a b to) h = condition_reads condition a b to h.0 h.1 (target_named symbols to h.2)
+  transfer_reads (Jump to) h = reads (codes "b") m.Goto (Place to) [] _ refl refl refl (target_named symbols to h) tt refl
   transfer_reads (Call to link) h =
-      reads (codes "call") m.Call (Place to) (Register link ∷ []) _ refl refl refl h.0 (h.1, tt) (bind_is _ _ link _ (register_read link h.1) refl)
+      reads (codes "call") m.Call (Place to) (Register link ∷ []) _ refl refl refl (target_named symbols to h.0) (h.1, tt) (bind_is _ _ link _ (register_read link h.1) refl)
   transfer_reads (CallReg rs link) h =
       reads (codes "callr") m.CallReg (Register rs) (Register link ∷ []) _ refl refl refl h.0 (h.1, tt)
       (bind_is _ _ rs _ (register_read rs h.0) (bind_is _ _ link _ (register_read link h.1) refl))
@@ -249,7 +257,7 @@ mark_reads K name letters = record {
     words : line_words (name ++ codes ":") ≡ Name name ∷ Colon ∷ []
     words = ap words_or_none (words_are (name ++ codes ":") (Name name ∷ Colon ∷ []) splits)
 
-written_reads : (K : Labels) (p : Program) (text : Bor (List ℕ)) → WrittenFits text
+written_reads : (K : Labels) (p : Program) (text : Bor (List ℕ)) → WrittenFits text.now
     → ReadsAs K (text.now ++ codes "\n") (line_names p (Written text)) (statement_count (Written text)) (line_statement K p (Written text))
 written_reads K p text h = record {
   line = text.now;
@@ -262,9 +270,9 @@ written_reads K p text h = record {
 
 pub line_reads : (p : Program) (line : Line) → LineFits p line → (K : Labels) → LineReads K p line
 line_reads p (PlainLine plain) h K = inr (plain_reads K p.symbols.list.items plain h)
-line_reads p (Constant value rd) h K = inr (constant_reads K p.symbols.list.items value rd h.0 h.1)
-line_reads p (Take word base rd) h K = inr (take_reads K p.symbols.list.items word base rd h.0 h.1 h.2)
+line_reads p (Constant value rd) h K = inr (constant_reads K p.symbols.list.items value rd (word_named (Number value) h.0) h.1)
+line_reads p (Take word base rd) h K = inr (take_reads K p.symbols.list.items word base rd (word_named word h.0) h.1 h.2)
 line_reads p (TransferLine transfer) h K = inr (transfer_reads K p.symbols.list.items transfer h)
-line_reads p (Mark target) h K = inr (mark_reads K (target_label p.symbols.list.items target) h)
+line_reads p (Mark target) h K = inr (mark_reads K (target_label p.symbols.list.items target) (target_named p.symbols.list.items target h))
 line_reads p (Told unit file line) h K = told_reads K (file_name p unit file) line h.0 h.1
 line_reads p (Written text) h K = inr (written_reads K p text h)

@@ -1,6 +1,6 @@
 -- How the text of a line is read.
-use Rattle.std.specs.Prelude.{◌≡◌, ℕ, ◌+◌, ◌^◌, ◌≤◌, ◌<◌, Bool, true, false, cond, not, ◌||◌, ◌==◌, ◌⊎◌, List, [], ◌∷◌, ◌++◌, Option, Some, None, Result, Ok}
-use Rattle.std.specs.List.{list_all}
+use Rattle.std.specs.Prelude.{◌≡◌, ℕ, ◌+◌, ◌^◌, ◌≤◌, ◌<◌, Bool, true, false, cond, not, ◌||◌, ◌==◌, nat_eq, ◌⊎◌, List, [], ◌∷◌, ◌++◌, Option, Some, None, Result, Ok}
+use Rattle.std.specs.List.{list_all, ends_with}
 use Rattle.std.specs.Borrow.{Bor}
 use Rattle.mx_isa.specs.Fields.{IsSignedField}
 use Rattle.mx_isa.specs.Registers.{IsRegister}
@@ -22,14 +22,16 @@ use Rattle.cc_program.specs.declared.program.Program.{Program}
 use Rattle.cc_emit.specs.declared.line.Plain.{Plain}
 use Rattle.cc_emit.specs.declared.line.Plain.TheVariants.{Compute, Move, Not, Addi, Asr, Sh, Load, Store}
 use Rattle.cc_emit.specs.declared.line.Word.{Word}
-use Rattle.cc_emit.specs.declared.line.Word.TheVariants.{Number}
+use Rattle.cc_emit.specs.declared.line.Word.TheVariants.{Number, End}
 use Rattle.cc_emit.specs.declared.line.Transfer.{Transfer}
 use Rattle.cc_emit.specs.declared.line.Transfer.TheVariants.{Branch, Jump, Call, CallReg, JumpReg, Halt}
 use Rattle.cc_emit.specs.declared.line.Target.{Target}
+use Rattle.cc_emit.specs.declared.line.Target.TheVariants.{Symbol as SymbolTarget, Routine, Shifted, Skip}
 use Rattle.cc_emit.specs.declared.line.Line.{Line}
 use Rattle.cc_emit.specs.declared.line.Line.TheVariants.{Plain as PlainLine, Transfer as TransferLine, Constant, Take, Mark, Told, Written}
 use Rattle.cc_emit.specs.Lines.{line_text, file_name, is_statement}
-use Rattle.cc_emit.specs.Statements.{word_label, target_label}
+use Rattle.cc_emit.specs.Names.{symbol_text}
+use Rattle.cc_emit.specs.Statements.{target_label}
 use Rattle.law_emit.specs.Statements.{instruction, transfer_statement, take_statement, constant_statement}
 
 -- the statement of words that begin with a mnemonic
@@ -52,6 +54,10 @@ abbrev pub line_names : Program → Line → List (List ℕ)
 line_names p (Mark target) = target_label p.symbols.list.items target ∷ []
 line_names p (Written text) = front_names (line_words text.now)
 line_names p _ = []
+
+-- a line of a routine is a statement, unless a `:` ends it
+abbrev pub written_count : List ℕ → ℕ
+written_count text = cond (not (ends_with nat_eq text (58 ∷ []))) 1 0
 
 -- how many statements a line is
 abbrev pub statement_count : Line → ℕ
@@ -99,17 +105,23 @@ PlainFits (Sh a b count rd) = IsRegister a × IsRegister b × (count ≤ 31) × 
 PlainFits (Load words base rd) = IsSignedField 16 words × IsRegister base × IsRegister rd
 PlainFits (Store words base rs) = IsSignedField 16 words × IsRegister base × IsRegister rs
 
--- the label of a place is a name of the language
-abbrev pub IsNamed : List Symbol → Target → Type 0
-IsNamed symbols to = is_name (target_label symbols to) ≡ true
+-- numbers in the labels of words that the translation adds have 32 bits
+abbrev pub WordFits : Word → Type 0
+WordFits (Number n) = n < 2 ^ 32
+WordFits (End addend) = addend < 2 ^ 32
+WordFits _ = Unit {0}
 
-abbrev pub IsWordNamed : Word → Type 0
-IsWordNamed word = is_name (word_label word) ≡ true
+-- the label of a symbol is a name of the language; numbers in other labels have 8 or 32 bits
+abbrev pub TargetFits : List Symbol → Target → Type 0
+TargetFits symbols (SymbolTarget number) = is_name (symbol_text symbols number) ≡ true
+TargetFits symbols (Routine routine) = Unit {0}
+TargetFits symbols (Shifted routine count) = count < 2 ^ 8
+TargetFits symbols (Skip number) = number < 2 ^ 32
 
 abbrev pub TransferFits : List Symbol → Transfer → Type 0
-TransferFits symbols (Branch condition a b to) = IsRegister a × IsRegister b × IsNamed symbols to
-TransferFits symbols (Jump to) = IsNamed symbols to
-TransferFits symbols (Call to link) = IsNamed symbols to × IsRegister link
+TransferFits symbols (Branch condition a b to) = IsRegister a × IsRegister b × TargetFits symbols to
+TransferFits symbols (Jump to) = TargetFits symbols to
+TransferFits symbols (Call to link) = TargetFits symbols to × IsRegister link
 TransferFits symbols (CallReg rs link) = IsRegister rs × IsRegister link
 TransferFits symbols (JumpReg rs) = IsRegister rs
 TransferFits symbols Halt = Unit {0}
@@ -129,17 +141,17 @@ IsCode (Name name ∷ words) = is_dotted name ≡ false
 IsCode _ = ⊥
 
 -- the text of a routine's line is one line, with a label or a statement
-pub record WrittenFits (text : Bor (List ℕ)) : Type 0 where
-  pub one : is_one_line text.now ≡ true
-  pub code : IsCode (statement_words (line_words text.now))
-  pub stays : section_after section.Code (statement_words (line_words text.now)) ≡ section.Code
-  pub counts : instruction_count (statement_words (line_words text.now)) ≡ statement_count (Written text)
+pub record WrittenFits (text : List ℕ) : Type 0 where
+  pub one : is_one_line text ≡ true
+  pub code : IsCode (statement_words (line_words text))
+  pub stays : section_after section.Code (statement_words (line_words text)) ≡ section.Code
+  pub counts : instruction_count (statement_words (line_words text)) ≡ written_count text
 
 abbrev pub LineFits : Program → Line → Type 0
 LineFits p (PlainLine plain) = PlainFits plain
-LineFits p (Constant value rd) = IsWordNamed (Number value) × IsRegister rd
-LineFits p (Take word base rd) = IsWordNamed word × IsRegister base × IsRegister rd
+LineFits p (Constant value rd) = (value < 2 ^ 32) × IsRegister rd
+LineFits p (Take word base rd) = WordFits word × IsRegister base × IsRegister rd
 LineFits p (TransferLine transfer) = TransferFits p.symbols.list.items transfer
-LineFits p (Mark target) = IsNamed p.symbols.list.items target
+LineFits p (Mark target) = TargetFits p.symbols.list.items target
 LineFits p (Told unit file line) = FileFits (file_name p unit file) × (line < 2 ^ 32)
-LineFits p (Written text) = WrittenFits text
+LineFits p (Written text) = WrittenFits text.now

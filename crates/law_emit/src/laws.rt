@@ -6,9 +6,13 @@ ghost use Rattle.mx_lines.specs.declared.labels.TheConstants.{PAST_END};
 ghost use Rattle.mx_asm.specs.Texts.{ReadsAs};
 ghost use Rattle.cc_program.specs.declared.program.Program.{Program};
 ghost use Rattle.cc_emit.specs.declared.line.Line.{Line};
+ghost use Rattle.cc_emit.specs.declared.line.Routine.{Routine};
+ghost use Rattle.cc_emit.specs.Lines.{lines_text};
+ghost use Rattle.cc_emit.specs.Routines.{routines_text};
 ghost use Rattle.cc_emit.specs.Sources.{code_text};
 ghost use Rattle.law_emit.specs.Reading.{LineFits, LineReads};
 ghost use Rattle.law_emit.specs.Lines.{IsSourceOf};
+ghost use Rattle.law_emit.specs.Routines.{routine_lines};
 
 /// The text of a line is one line, which the assembler reads as the statement and the labels that the line is, whatever the labels of
 /// the whole text are; a name that is no such label has the same fault for both. A comment is no statement, and has no line if its file
@@ -22,4 +26,10 @@ pub fn line_reads_back()
 pub fn code_reads_back()
     ensures { (p : Program) (lines : List Line) → All (LineFits p) lines → (address end : ℕ) → address ≤ PAST_END → (rest : List ℕ)
         → (source : SourceValue) → ReadsAs address end (code_text p lines ++ rest) source → IsSourceOf p lines address rest source }
+{}
+
+/// The text of routines is that of lines that fit.
+pub fn routines_fit()
+    ensures fit { (p : Program) (called : List Routine) → All (LineFits p) (routine_lines called) }
+    ensures text { (p : Program) (called : List Routine) → lines_text p (routine_lines called) ≡ routines_text called p }
 {}

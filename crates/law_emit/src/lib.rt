@@ -3,4 +3,4 @@
 
 mod laws;
 
-pub use laws::{code_reads_back, line_reads_back};
+pub use laws::{code_reads_back, line_reads_back, routines_fit};
