@@ -82,7 +82,8 @@ told_reads K (Some name) line h small = by_length (nat_le (length name.now) 160)
     one : is_one_line (codes "; " ++ unquoted name.now ++ codes ":" ++ decimal line) ≡ true
     one =
         both_lines (codes "; " ++ unquoted name.now ++ codes ":") (decimal line)
-        (both_lines (codes "; " ++ unquoted name.now) (codes ":") (both_lines (codes "; ") (unquoted name.now) refl (still_one (λ b. not (b == 34)) name.now h)) refl)
+        (both_lines (codes "; " ++ unquoted name.now) (codes ":") (both_lines (codes "; ") (unquoted name.now) refl
+        (still_one (λ b. not (b == 34)) name.now h)) refl)
         (digits_one (decimal line) (decimal_is_IsNumeral line (omega arith)).0.1)
 
     by_length : (t : Bool) → Reads K (cond t (codes "; " ++ unquoted name.now ++ codes ":" ++ decimal line ++ codes "\n") []) [] 0 None

@@ -1,4 +1,6 @@
 pub mod Alone
+pub mod Data
+pub mod Labels
 pub mod Lines
 pub mod Comments
 pub mod Names

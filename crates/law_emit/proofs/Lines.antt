@@ -1,7 +1,8 @@
 -- The code of a translation is read line by line.
-use Rattle.std.proofs.Common.{◌≡◌, ℕ, ◌+◌, ◌≤◌, Bool, List, [], ◌∷◌, ◌++◌, length, Option, Some, None, Result, Ok, Err, inl, inr, refl, sym, ap, ◌∙◌, subst, arith, append_assoc}
-use Rattle.std.specs.Prelude.{All, codes}
+use Rattle.std.proofs.Common.{◌≡◌, ℕ, ◌+◌, ◌≤◌, Bool, cond, List, [], ◌∷◌, ◌++◌, length, Option, Some, None, Result, Ok, Err, inl, inr, refl, sym, ap, ◌∙◌, subst, arith, append_assoc}
+use Rattle.std.specs.Prelude.{All, count_by, codes}
 use Rattle.std.proofs.lemmas.List.Elements.{All-head, All-tail}
+use Rattle.std.proofs.lemmas.List.Sums.{sum_by-cons}
 use Rattle.mx_lex.specs.Lines.{lines_of}
 use Rattle.mx_source.specs.declared.statement.Label.{Label}
 use Rattle.mx_source.specs.declared.statement.Label.TheVariants as label
@@ -19,15 +20,29 @@ use Rattle.mx_asm.specs.Faults.{found_or, first_fault, line_fault, least_fault, 
 use Rattle.mx_asm.specs.Texts.{ReadsAs as TextReadsAs, effects_from, or_nothing, onto_statements, onto_values, onto_input, statements_in, values_in, input_in, source_of, text_effects, text_labels, text_fault}
 use Rattle.cc_program.specs.declared.program.Program.{Program}
 use Rattle.cc_emit.specs.declared.line.Line.{Line}
-use Rattle.cc_emit.specs.Lines.{line_text, lines_text}
+use Rattle.cc_emit.specs.Lines.{is_statement, line_text, lines_text}
 use Rattle.cc_emit.specs.Sources.{title, code_text}
 use Rattle.law_emit.specs.Reading.{Reads, LineFits, line_names, line_statement, statement_count, effect_from, code_at}
-use Rattle.law_emit.specs.Lines.{index_after, define_all, code_labels, before, resolve, IsSourceOf}
+use Rattle.law_emit.specs.Lines.{define_all, code_labels, before, resolve, IsSourceOf}
 use Rattle.law_emit.proofs.Comments.{comment_reads}
 use Rattle.law_emit.proofs.Statements.{line_reads}
 
+-- the index of the statement after lines
+abbrev pub index_after : ℕ → List Line → ℕ
+index_after index [] = index
+index_after index (line ∷ lines) = index_after (index + statement_count line) lines
+
+counted : (index : ℕ) (lines : List Line) → index_after index lines ≡ index + count_by is_statement lines
+counted index [] = omega arith
+counted index (line ∷ lines) =
+    let more = sum_by-cons (λ l. cond (is_statement l) 1 0) line lines in
+    omega (arith, counted (index + statement_count line) lines, more)
+
+pub counts : (lines : List Line) → index_after 0 lines ≡ count_by is_statement lines
+counts lines = counted 0 lines ∙ omega arith
+
 -- the labels at the front of a line, by their names
-define_names : (labels : Labels) (l : Label) (words : List Word) → define_front labels l words ≡ define_all labels l (front_names words)
+pub define_names : (labels : Labels) (l : Label) (words : List Word) → define_front labels l words ≡ define_all labels l (front_names words)
 define_names labels l [] = refl
 define_names labels l (Name n ∷ []) = refl
 define_names labels l (Name n ∷ Colon ∷ ws) = define_names (define labels l n) l ws
@@ -47,7 +62,7 @@ define_names labels l (Colon ∷ ws) = refl
 define_names labels l (End ∷ ws) = refl
 
 -- the labels of one text
-labels_step : (K : Labels) (text : List ℕ) (names : List (List ℕ)) (count : ℕ) (said : Option (Result Statement Fault)) → Reads K text names count said
+pub labels_step : (K : Labels) (text : List ℕ) (names : List (List ℕ)) (count : ℕ) (said : Option (Result Statement Fault)) → Reads K text names count said
     → (index address : ℕ) → address ≤ PAST_END → (earlier : Labels) (rest : List ℕ)
     → labels_from (code_at index address) earlier (lines_of (text ++ rest))
     ≡ labels_from (code_at (index + count) address) (define_all earlier (label.Code index) names) (lines_of rest)
@@ -64,7 +79,7 @@ labels_step K text names count said (inr r) index address near earlier rest =
     (define_names earlier (label.Code index) (line_words r.line) ∙ ap (define_all earlier (label.Code index)) r.labelled)
 
 -- the labels of lines
-lines_labels : (p : Program) (lines : List Line) → All (LineFits p) lines → (index address : ℕ) → address ≤ PAST_END → (earlier : Labels) (rest : List ℕ)
+pub lines_labels : (p : Program) (lines : List Line) → All (LineFits p) lines → (index address : ℕ) → address ≤ PAST_END → (earlier : Labels) (rest : List ℕ)
     → labels_from (code_at index address) earlier (lines_of (lines_text p lines ++ rest))
     ≡ labels_from (code_at (index_after index lines) address) (code_labels p index earlier lines) (lines_of rest)
 lines_labels p [] fits index address near earlier rest = refl
@@ -108,9 +123,17 @@ joined K end from between to number all some rest own more g h = record {
 }
 
 -- no line has a fault
-found_both : (n : ℕ) (here : Option Fault) (later : Option (ℕ × Fault)) → found_or n here later ≡ None → (here ≡ None) × (later ≡ None)
+pub found_both : (n : ℕ) (here : Option Fault) (later : Option (ℕ × Fault)) → found_or n here later ≡ None → (here ≡ None) × (later ≡ None)
 found_both n (Some fault) later h = cc
 found_both n None later h = (refl, h)
+
+pub sound_line : (K : Labels) (end : ℕ) (from : Position) (earlier : Labels) (number : ℕ) (line : List ℕ) (all lines : List (List ℕ)) → all ≡ line ∷ lines
+    → first_fault K end from earlier number all ≡ None → (line_fault K end from earlier line ≡ None)
+    × (first_fault K end (after from (line_words line)) (with_labels from earlier (line_words line)) (number + 1) lines ≡ None)
+sound_line K end from earlier number line all lines cut h =
+    found_both number (line_fault K end from earlier line)
+    (first_fault K end (after from (line_words line)) (with_labels from earlier (line_words line)) (number + 1) lines)
+    (ap (first_fault K end from earlier number) (sym cut) ∙ h)
 
 least_ok : (repeated : Bool) (r : Result Effect Fault) (o : Option Fault) → least_fault repeated r o ≡ None → (e : Effect) × (r ≡ Ok e)
 least_ok repeated (Ok e) o h = (e, refl)
@@ -199,9 +222,7 @@ module _ (K : Labels) (end index address : ℕ) (near : address ≤ PAST_END) (e
   step text names count said (inr r) h =
       let words = line_words r.line in
       let cut = r.alone rest in
-      let both = found_both number (line_fault K end here earlier r.line)
-      (first_fault K end (after here words) (with_labels here earlier words) (number + 1) (lines_of rest))
-      (ap (first_fault K end here earlier number) (sym cut) ∙ h) in
+      let both = sound_line K end here earlier number r.line (lines_of (text ++ rest)) (lines_of rest) cut h in
       let ok = words_ok K end here (repeats here earlier words) (length r.line) (words_of r.line) both.0 in
       let found = said_ok said ok.0 (sym r.effect ∙ ok.1) in
       record {
@@ -256,34 +277,57 @@ none_own : (o : Option Statement) → None ≡ read o → alone_in o ≡ []
 none_own None h = refl
 none_own (Some s) h = cc
 
-title_reads : (K : Labels) → Reads K title [] 0 None
+pub title_reads : (K : Labels) → Reads K title [] 0 None
 title_reads K = inr (comment_reads K (codes " translated from assembly for MIPS-I") refl)
+
+-- the whole code
+pub text_labels_are : (p : Program) (lines : List Line) → All (LineFits p) lines → (address : ℕ) → address ≤ PAST_END → (rest : List ℕ)
+    → labels_from (code_at 0 address) [] (lines_of (code_text p lines ++ rest))
+    ≡ labels_from (code_at (index_after 0 lines) address) (code_labels p 0 [] lines) (lines_of rest)
+text_labels_are p lines fits address near rest =
+    ap (λ t. labels_from (code_at 0 address) [] (lines_of t)) (append_assoc title (lines_text p lines) rest)
+    ∙ labels_step [] title [] 0 None (title_reads []) 0 address near [] (lines_text p lines ++ rest)
+    ∙ lines_labels p lines fits 0 address near [] rest
+
+record Codes (K : Labels) (end : ℕ) (p : Program) (lines : List Line) (address : ℕ) (rest : List ℕ) : Type 0 where
+  own : List Statement
+  resolved : resolve K p lines ≡ Ok own
+  goes : Goes K end (code_at 0 address) 1 (lines_of (code_text p lines ++ rest)) own (code_at (index_after 0 lines) address) (lines_of rest)
+
+code_goes : (K : Labels) (end : ℕ) (p : Program) (lines : List Line) → All (LineFits p) lines → (address : ℕ) → address ≤ PAST_END → (rest : List ℕ)
+    → first_fault K end (code_at 0 address) [] 1 (lines_of (code_text p lines ++ rest)) ≡ None → Codes K end p lines address rest
+code_goes K end p lines fits address near rest h =
+    let from = code_at 0 address in
+    let to = code_at (index_after 0 lines) address in
+    let more = lines_text p lines ++ rest in
+    let flat = append_assoc title (lines_text p lines) rest in
+    let one = step K end 0 address near [] 1 more title [] 0 None (title_reads K)
+    (ap (λ t. first_fault K end from [] 1 (lines_of t)) (sym flat) ∙ h) in
+    let all = lines_go K end p lines fits 0 address near one.goes.earlier one.goes.later rest one.goes.faultless in
+    record {
+      own = all.own;
+      resolved = all.resolved;
+      goes =
+          subst (λ t. Goes K end from 1 (lines_of t) all.own to (lines_of rest)) (sym flat)
+          (subst (λ ss. Goes K end from 1 (lines_of (title ++ more)) (ss ++ all.own) to (lines_of rest)) (none_own one.found one.is)
+          (joined K end from from to 1 (lines_of (title ++ more)) (lines_of more) (lines_of rest) (alone_in one.found) all.own one.goes all.goes));
+    }
 
 pub code_read : (p : Program) (lines : List Line) → All (LineFits p) lines → (address end : ℕ) → address ≤ PAST_END → (rest : List ℕ) → (source : SourceValue)
     → TextReadsAs address end (code_text p lines ++ rest) source → IsSourceOf p lines address rest source
 unfolding text_fault source_of text_effects text_labels
 code_read p lines fits address end near rest source h =
-    let from = code_at 0 address in
-    let more = lines_text p lines ++ rest in
-    let K : Labels = labels_from from [] (lines_of (code_text p lines ++ rest)) in
-    let flat = append_assoc title (lines_text p lines) rest in
-    let one = step K end 0 address near [] 1 more title [] 0 None (title_reads K)
-    (ap (λ t. first_fault K end from [] 1 (lines_of t)) (sym flat) ∙ h.faultless) in
-    let all = lines_go K end p lines fits 0 address near one.goes.earlier one.goes.later rest one.goes.faultless in
-    let none = none_own one.found one.is in
+    let K : Labels = labels_from (code_at 0 address) [] (lines_of (code_text p lines ++ rest)) in
+    let all = code_goes K end p lines fits address near rest h.faultless in
     subst (IsSourceOf p lines address rest) (sym h.same) (record {
-      labels = ap (λ t. labels_from from [] (lines_of t)) flat
-          ∙ labels_step [] title [] 0 None (title_reads []) 0 address near [] more
-          ∙ lines_labels p lines fits 0 address near [] rest;
+      labels = text_labels_are p lines fits address near rest
+          ∙ ap (λ n. labels_from (code_at n address) (code_labels p 0 [] lines) (lines_of rest)) (counts lines);
       own = all.own;
       resolved = all.resolved;
       number = all.goes.later;
       effects = effects_from K (code_at (index_after 0 lines) address) all.goes.later (lines_of rest);
-      follow = refl;
-      statements = ap (λ t. statements_in (effects_from K from 1 (lines_of t))) flat
-          ∙ one.goes.statements
-          ∙ ap (λ ss. ss ++ statements_in (effects_from K from one.goes.later (lines_of more))) none
-          ∙ all.goes.statements;
-      user_data = ap (λ t. values_in (effects_from K from 1 (lines_of t))) flat ∙ one.goes.values ∙ all.goes.values;
-      input = ap (λ t. input_in (effects_from K from 1 (lines_of t))) flat ∙ one.goes.input ∙ all.goes.input;
+      follow = ap (λ n. effects_from K (code_at n address) all.goes.later (lines_of rest)) (counts lines);
+      statements = all.goes.statements;
+      user_data = all.goes.values;
+      input = all.goes.input;
     })

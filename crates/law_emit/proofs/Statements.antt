@@ -231,7 +231,8 @@ module _ (K : Labels) (symbols : List Symbol) where
   transfer_reads (Branch condition a b to) h = condition_reads condition a b to h.0 h.1 (target_named symbols to h.2)
   transfer_reads (Jump to) h = reads (codes "b") m.Goto (Place to) [] _ refl refl refl (target_named symbols to h) tt refl
   transfer_reads (Call to link) h =
-      reads (codes "call") m.Call (Place to) (Register link ∷ []) _ refl refl refl (target_named symbols to h.0) (h.1, tt) (bind_is _ _ link _ (register_read link h.1) refl)
+      reads (codes "call") m.Call (Place to) (Register link ∷ []) _ refl refl refl (target_named symbols to h.0) (h.1, tt)
+      (bind_is _ _ link _ (register_read link h.1) refl)
   transfer_reads (CallReg rs link) h =
       reads (codes "callr") m.CallReg (Register rs) (Register link ∷ []) _ refl refl refl h.0 (h.1, tt)
       (bind_is _ _ rs _ (register_read rs h.0) (bind_is _ _ link _ (register_read link h.1) refl))

@@ -1,5 +1,5 @@
 -- How the text of a translation's code is read.
-use Rattle.std.specs.Prelude.{◌≡◌, ℕ, ◌+◌, List, [], ◌∷◌, ◌++◌, Option, Some, None, Result, Ok}
+use Rattle.std.specs.Prelude.{◌≡◌, ℕ, ◌+◌, List, [], ◌∷◌, ◌++◌, All, count_by, Option, Some, None, Result, Ok}
 use Rattle.mx_lex.specs.Lines.{lines_of}
 use Rattle.mx_source.specs.declared.statement.Label.{Label}
 use Rattle.mx_source.specs.declared.statement.Label.TheVariants as label
@@ -9,16 +9,13 @@ use Rattle.mx_lines.specs.declared.fault.Fault.{Fault}
 use Rattle.mx_lines.specs.Instructions.{Labels}
 use Rattle.mx_lines.specs.Reading.{◌>>=◌}
 use Rattle.mx_asm.specs.Directives.{Effect}
-use Rattle.mx_asm.specs.Positions.{define, labels_from}
+use Rattle.mx_asm.specs.declared.position.Section.TheVariants as section
+use Rattle.mx_asm.specs.Positions.{define, labels_from, section_after, statement_words, line_words}
 use Rattle.mx_asm.specs.Texts.{effects_from, statements_in, values_in, input_in}
 use Rattle.cc_program.specs.declared.program.Program.{Program}
 use Rattle.cc_emit.specs.declared.line.Line.{Line}
+use Rattle.cc_emit.specs.Lines.{is_statement}
 use Rattle.law_emit.specs.Reading.{line_statement, line_names, statement_count, code_at}
-
--- the index of the statement after lines
-abbrev pub index_after : ℕ → List Line → ℕ
-index_after index [] = index
-index_after index (line ∷ lines) = index_after (index + statement_count line) lines
 
 -- the labels with these names, of which the first definition holds
 abbrev pub define_all : Labels → Label → List (List ℕ) → Labels
@@ -42,12 +39,16 @@ resolve labels p (line ∷ lines) = before (line_statement labels p line) (resol
 
 -- the source of a text has the labels and the statements of lines, and then what follows their text
 pub record IsSourceOf (p : Program) (lines : List Line) (address : ℕ) (rest : List ℕ) (source : SourceValue) : Type 0 where
-  pub labels : source.labels ≡ labels_from (code_at (index_after 0 lines) address) (code_labels p 0 [] lines) (lines_of rest)
+  pub labels : source.labels ≡ labels_from (code_at (count_by is_statement lines) address) (code_labels p 0 [] lines) (lines_of rest)
   pub own : List Statement
   pub resolved : resolve source.labels p lines ≡ Ok own
   pub number : ℕ
   pub effects : List (ℕ × Effect)
-  pub follow : effects ≡ effects_from source.labels (code_at (index_after 0 lines) address) number (lines_of rest)
+  pub follow : effects ≡ effects_from source.labels (code_at (count_by is_statement lines) address) number (lines_of rest)
   pub statements : source.statements ≡ own ++ statements_in effects
   pub user_data : source.user_data ≡ values_in effects
   pub input : source.input ≡ input_in effects
+
+-- each line leaves the section of data as it is
+abbrev pub StaysData : List (List ℕ) → Type 0
+StaysData lines = All (λ line. section_after section.Data (statement_words (line_words line)) ≡ section.Data) lines

@@ -1,17 +1,21 @@
 //! Laws over the definitions.
-ghost use Rattle.std.specs.Prelude.{◌≡◌, ◌++◌, ◌≤◌, ℕ, List, All};
+ghost use Rattle.std.specs.Prelude.{◌≡◌, ◌∷◌, ◌++◌, ◌≤◌, ℕ, Bool, List, [], All, count_by, Some, Ok};
+ghost use Rattle.mx_lex.specs.Lines.{lines_of};
 ghost use Rattle.mx_source.specs.SourceValue.{SourceValue};
+ghost use Rattle.mx_source.specs.declared.statement.Label.TheVariants.{Code};
 ghost use Rattle.mx_lines.specs.Instructions.{Labels};
+ghost use Rattle.mx_lines.specs.Operands.{label_named};
 ghost use Rattle.mx_lines.specs.declared.labels.TheConstants.{PAST_END};
 ghost use Rattle.mx_asm.specs.Texts.{ReadsAs};
 ghost use Rattle.cc_program.specs.declared.program.Program.{Program};
 ghost use Rattle.cc_emit.specs.declared.line.Line.{Line};
 ghost use Rattle.cc_emit.specs.declared.line.Routine.{Routine};
-ghost use Rattle.cc_emit.specs.Lines.{lines_text};
+ghost use Rattle.cc_emit.specs.Data.{front_text};
+ghost use Rattle.cc_emit.specs.Lines.{is_statement, lines_text};
 ghost use Rattle.cc_emit.specs.Routines.{routines_text};
 ghost use Rattle.cc_emit.specs.Sources.{code_text};
-ghost use Rattle.law_emit.specs.Reading.{LineFits, LineReads};
-ghost use Rattle.law_emit.specs.Lines.{IsSourceOf};
+ghost use Rattle.law_emit.specs.Reading.{LineFits, LineReads, line_names};
+ghost use Rattle.law_emit.specs.Lines.{IsSourceOf, StaysData, resolve};
 ghost use Rattle.law_emit.specs.Routines.{routine_lines};
 
 /// The text of a line is one line, which the assembler reads as the statement and the labels that the line is, whatever the labels of
@@ -28,8 +32,23 @@ pub fn code_reads_back()
         → (source : SourceValue) → ReadsAs address end (code_text p lines ++ rest) source → IsSourceOf p lines address rest source }
 {}
 
+/// In a source that begins with the code of a translation, the label of a line names the statement after it.
+pub fn labels_are_found()
+    ensures { (p : Program) (before after : List Line) (line : Line) → All (LineFits p) (before ++ line ∷ after) → (address end : ℕ) → address ≤ PAST_END
+        → (rest : List ℕ) → (source : SourceValue) → ReadsAs address end (code_text p (before ++ line ∷ after) ++ rest) source
+        → (name : List ℕ) → line_names p line ≡ name ∷ [] → label_named source.labels name ≡ Some (Code (count_by is_statement before)) }
+{}
+
 /// The text of routines is that of lines that fit.
 pub fn routines_fit()
     ensures fit { (p : Program) (called : List Routine) → All (LineFits p) (routine_lines called) }
     ensures text { (p : Program) (called : List Routine) → lines_text p (routine_lines called) ≡ routines_text called p }
+{}
+
+/// A source of lines, routines and data has the statements that the lines are by its labels, if no line of the data is a `.code`.
+pub fn source_reads_back()
+    ensures { (p : Program) (lines : List Line) → All (LineFits p) lines → (called : List Routine) (input : Bool) (rest : List ℕ)
+        → StaysData (lines_of rest) → (address end : ℕ) → address ≤ PAST_END → (source : SourceValue)
+        → ReadsAs address end (code_text p lines ++ routines_text called p ++ (front_text input ++ rest)) source
+        → resolve source.labels p (lines ++ routine_lines called) ≡ Ok source.statements }
 {}

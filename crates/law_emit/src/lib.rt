@@ -3,4 +3,6 @@
 
 mod laws;
 
-pub use laws::{code_reads_back, line_reads_back, routines_fit};
+pub use laws::{
+    code_reads_back, labels_are_found, line_reads_back, routines_fit, source_reads_back,
+};
