@@ -36,6 +36,7 @@ EXCEPT = {
     ("law_profile", "lab_profile"),
     ("law_certify", "lab_certify"),
     ("law_emit", "cc_lines"),
+    ("law_emit", "cc_rules"),
     ("law_emit", "cc_program"),
     ("law_emit", "cc_emit"),
 }

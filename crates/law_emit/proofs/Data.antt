@@ -1,9 +1,8 @@
 -- Data have no statements.
-use Rattle.std.proofs.Common.{◌≡◌, ℕ, ◌+◌, ◌≤◌, Bool, true, false, cond, List, [], ◌∷◌, ◌++◌, Option, Some, None, Result, Ok, Err, refl, sym, ap, ◌∙◌, subst, append_assoc}
+use Rattle.std.proofs.Common.{◌≡◌, ℕ, ◌+◌, ◌-◌, ◌/◌, ◌≤◌, Bool, true, false, cond, List, [], ◌∷◌, ◌++◌, Option, Some, None, Result, Ok, Err, refl, sym, ap, ◌∙◌, subst, append_assoc}
 use Rattle.std.specs.Prelude.{All, count_by, codes, min, replicate}
 use Rattle.std.proofs.lemmas.List.{append-nil}
-use Rattle.std.proofs.lemmas.List.Elements.{All-head, All-tail, All-append}
-use Rattle.std.proofs.lemmas.Grind.{flat_map-append}
+use Rattle.std.proofs.lemmas.List.Elements.{All-head, All-tail}
 use Rattle.mx_lex.specs.Lines.{lines_of}
 use Rattle.mx_source.specs.declared.statement.Statement.{Statement}
 use Rattle.mx_source.specs.declared.statement.Value.{Value}
@@ -25,17 +24,16 @@ use Rattle.mx_asm.specs.Texts.{ReadsAs as TextReadsAs, effects_from, or_nothing,
 use Rattle.mx_asm.proofs.Spelled.{splits_end, splits_name, words_are}
 use Rattle.cc_program.specs.declared.program.Program.{Program}
 use Rattle.cc_emit.specs.declared.line.Line.{Line}
-use Rattle.cc_emit.specs.declared.line.Routine.{Routine}
-use Rattle.cc_emit.specs.Data.{front_text}
-use Rattle.cc_emit.specs.Lines.{is_statement, line_text, lines_text}
-use Rattle.cc_emit.specs.Routines.{routines_text}
-use Rattle.cc_emit.specs.Sources.{title, code_text}
-use Rattle.law_emit.specs.Lines.{StaysData, resolve}
+use Rattle.cc_rules.specs.declared.numbers.TheConstants.{FIRST_BYTE}
+use Rattle.cc_emit.specs.declared.output.Output.{Output}
+use Rattle.cc_emit.specs.Data.{front_text, added_text}
+use Rattle.cc_emit.specs.Images.{image_of}
+use Rattle.cc_emit.specs.Lines.{is_statement, lines_text}
+use Rattle.cc_emit.specs.Sources.{title, code_text, data_text, words_text, size_text, source_text}
+use Rattle.law_emit.specs.Lines.{StaysData, resolve, after_data}
 use Rattle.law_emit.specs.Reading.{LineFits, code_at}
-use Rattle.law_emit.specs.Routines.{routine_lines}
 use Rattle.law_emit.proofs.Alone.{alone}
 use Rattle.law_emit.proofs.Lines.{code_read}
-use Rattle.law_emit.proofs.Routines.{routines_fit, routines_same}
 
 abbrev Adds : Result Effect Fault → Type 0
 Adds r = (ss : List Statement) → onto_statements (or_nothing r) ss ≡ ss
@@ -141,20 +139,24 @@ front_adds K index address number true more h =
     (Name (codes ".input") ∷ []) Input input_words refl refl refl (section_adds K (index + 0) (min (address + 0) PAST_END) (number + 1) more h)
 
 -- a whole source
-whole_text : (p : Program) (lines : List Line) (called : List Routine)
-    → code_text p (lines ++ routine_lines called) ≡ code_text p lines ++ routines_text called p
-whole_text p lines called =
-    ap (λ t. title ++ t) (flat_map-append (line_text p) lines (routine_lines called) ∙ ap (λ t. lines_text p lines ++ t) (routines_same p called))
-    ∙ sym (append_assoc title (lines_text p lines) (routines_text called p))
+whole_text : (p : Program) (out : Output) (behind end : ℕ) (lines : List Line) → lines_text p out.lines.items ≡ lines_text p lines
+    → source_text p out behind end ≡ code_text p lines ++ (front_text out.input ++ after_data p out behind end)
+whole_text p out behind end lines same =
+    let words = words_text p (image_of p behind end) in
+    let added = added_text out end in
+    let size = size_text out.statements out.instructions ((end - FIRST_BYTE) / 4) in
+    ap (λ t. title ++ t ++ (data_text p out behind end ++ size)) same
+    ∙ ap (λ t. code_text p lines ++ t) (parts (front_text out.input) words added size)
+  where
+    parts : (a b c d : List ℕ) → a ++ b ++ c ++ d ≡ a ++ (b ++ c ++ d)
+    parts a b c d = append_assoc (a ++ b) c d ∙ append_assoc a b (c ++ d) ∙ ap (λ t. a ++ t) (sym (append_assoc b c d))
 
-pub whole_read : (p : Program) (lines : List Line) → All (LineFits p) lines → (called : List Routine) (input : Bool) (rest : List ℕ)
-    → StaysData (lines_of rest) → (address end : ℕ) → address ≤ PAST_END → (source : SourceValue)
-    → TextReadsAs address end (code_text p lines ++ routines_text called p ++ (front_text input ++ rest)) source
-    → resolve source.labels p (lines ++ routine_lines called) ≡ Ok source.statements
-whole_read p lines fits called input rest stays address end near source h =
-    let all = lines ++ routine_lines called in
-    let code = code_read p all (All-append (LineFits p) lines (routine_lines called) fits (routines_fit p called)) address end near
-    (front_text input ++ rest) source
-    (subst (λ t. TextReadsAs address end (t ++ (front_text input ++ rest)) source) (sym (whole_text p lines called)) h) in
-    let none = ap statements_in code.follow ∙ front_adds source.labels (count_by is_statement all) address code.number input rest stays in
+pub source_read : (p : Program) (out : Output) (behind end : ℕ) (lines : List Line) → All (LineFits p) lines
+    → lines_text p out.lines.items ≡ lines_text p lines → StaysData (lines_of (after_data p out behind end)) → (address limit : ℕ) → address ≤ PAST_END
+    → (source : SourceValue) → TextReadsAs address limit (source_text p out behind end) source → resolve source.labels p lines ≡ Ok source.statements
+source_read p out behind end lines fits same stays address limit near source h =
+    let rest = after_data p out behind end in
+    let code = code_read p lines fits address limit near (front_text out.input ++ rest) source
+    (subst (λ t. TextReadsAs address limit t source) (whole_text p out behind end lines same) h) in
+    let none = ap statements_in code.follow ∙ front_adds source.labels (count_by is_statement lines) address code.number out.input rest stays in
     code.resolved ∙ ap Ok (sym (code.statements ∙ ap (λ ss. code.own ++ ss) none ∙ append-nil code.own))

@@ -1,5 +1,5 @@
 //! Laws over the definitions.
-ghost use Rattle.std.specs.Prelude.{◌≡◌, ◌∷◌, ◌++◌, ◌≤◌, ℕ, Bool, List, [], All, count_by, Some, Ok};
+ghost use Rattle.std.specs.Prelude.{◌≡◌, ◌∷◌, ◌++◌, ◌≤◌, ℕ, List, [], All, count_by, Some, Ok};
 ghost use Rattle.mx_lex.specs.Lines.{lines_of};
 ghost use Rattle.mx_source.specs.SourceValue.{SourceValue};
 ghost use Rattle.mx_source.specs.declared.statement.Label.TheVariants.{Code};
@@ -10,12 +10,12 @@ ghost use Rattle.mx_asm.specs.Texts.{ReadsAs};
 ghost use Rattle.cc_program.specs.declared.program.Program.{Program};
 ghost use Rattle.cc_emit.specs.declared.line.Line.{Line};
 ghost use Rattle.cc_emit.specs.declared.line.Routine.{Routine};
-ghost use Rattle.cc_emit.specs.Data.{front_text};
+ghost use Rattle.cc_emit.specs.declared.output.Output.{Output};
 ghost use Rattle.cc_emit.specs.Lines.{is_statement, lines_text};
 ghost use Rattle.cc_emit.specs.Routines.{routines_text};
-ghost use Rattle.cc_emit.specs.Sources.{code_text};
+ghost use Rattle.cc_emit.specs.Sources.{code_text, source_text};
 ghost use Rattle.law_emit.specs.Reading.{LineFits, LineReads, line_names};
-ghost use Rattle.law_emit.specs.Lines.{IsSourceOf, StaysData, resolve};
+ghost use Rattle.law_emit.specs.Lines.{IsSourceOf, StaysData, after_data, resolve};
 ghost use Rattle.law_emit.specs.Routines.{routine_lines};
 
 /// The text of a line is one line, which the assembler reads as the statement and the labels that the line is, whatever the labels of
@@ -45,10 +45,11 @@ pub fn routines_fit()
     ensures text { (p : Program) (called : List Routine) → lines_text p (routine_lines called) ≡ routines_text called p }
 {}
 
-/// A source of lines, routines and data has the statements that the lines are by its labels, if no line of the data is a `.code`.
+/// The source of a translation has the statements that its lines are by its labels. Lines with the same text may take the place of its
+/// own, as those of its routines (`routines_fit`). No line of the data is a `.code`.
 pub fn source_reads_back()
-    ensures { (p : Program) (lines : List Line) → All (LineFits p) lines → (called : List Routine) (input : Bool) (rest : List ℕ)
-        → StaysData (lines_of rest) → (address end : ℕ) → address ≤ PAST_END → (source : SourceValue)
-        → ReadsAs address end (code_text p lines ++ routines_text called p ++ (front_text input ++ rest)) source
-        → resolve source.labels p (lines ++ routine_lines called) ≡ Ok source.statements }
+    ensures { (p : Program) (out : Output) (behind end : ℕ) (lines : List Line) → All (LineFits p) lines
+        → lines_text p out.lines.items ≡ lines_text p lines → StaysData (lines_of (after_data p out behind end))
+        → (address limit : ℕ) → address ≤ PAST_END → (source : SourceValue) → ReadsAs address limit (source_text p out behind end) source
+        → resolve source.labels p lines ≡ Ok source.statements }
 {}

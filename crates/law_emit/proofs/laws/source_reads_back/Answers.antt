@@ -1,5 +1,5 @@
-use Rattle.law_emit.proofs.Data.{whole_read}
+use Rattle.law_emit.proofs.Data.{source_read}
 use Rattle.law_emit.proofs.laws.source_reads_back.Goals as goal
 
 pub returns : goal.returns
-returns c = whole_read
+returns c = source_read
