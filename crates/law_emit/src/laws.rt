@@ -18,15 +18,16 @@ ghost use Rattle.law_emit.specs.Reading.{LineFits, LineReads, line_names};
 ghost use Rattle.law_emit.specs.Lines.{IsSourceOf, StaysData, after_data, resolve};
 ghost use Rattle.law_emit.specs.Routines.{routine_lines};
 
-/// The text of a line is one line, which the assembler reads as the statement and the labels that the line is, whatever the labels of
-/// the whole text are; a name that is no such label has the same fault for both. A comment is no statement, and has no line if its file
-/// has no name or a long one. A line of a routine is a text already, so that it is whatever the assembler reads of it.
+/// The text of a line, of whatever kind, is one line, which the assembler reads as the statement and the labels that the line is, whatever
+/// the labels of the whole text are; a name that is no such label has the same fault for both. A comment is no statement, and has no line
+/// if its file has no name or a long one. A line of a routine (`Written`) is a text already: it is the statement or the label that the
+/// assembler reads, and has to begin with one.
 pub fn line_reads_back()
     ensures { (p : Program) (line : Line) → LineFits p line → (labels : Labels) → LineReads labels p line }
 {}
 
-/// A text that begins with the code of a translation and reads as a source: this has the labels of the lines, and the statements that the
-/// lines are by the labels of the whole text, before those of the rest.
+/// A source whose text begins with the code of a translation has the labels of its lines, and the statements that the lines are by all
+/// labels, before those of the rest.
 pub fn code_reads_back()
     ensures { (p : Program) (lines : List Line) → All (LineFits p) lines → (address end : ℕ) → address ≤ PAST_END → (rest : List ℕ)
         → (source : SourceValue) → ReadsAs address end (code_text p lines ++ rest) source → IsSourceOf p lines address rest source }
@@ -39,14 +40,14 @@ pub fn labels_are_found()
         → (name : List ℕ) → line_names p line ≡ name ∷ [] → label_named source.labels name ≡ Some (Code (count_by is_statement before)) }
 {}
 
-/// The text of routines is that of lines that fit.
+/// The text of the routines that are called is that of lines that fit.
 pub fn routines_fit()
     ensures fit { (p : Program) (called : List Routine) → All (LineFits p) (routine_lines called) }
     ensures text { (p : Program) (called : List Routine) → lines_text p (routine_lines called) ≡ routines_text called p }
 {}
 
 /// The source of a translation has the statements that its lines are by its labels. Lines with the same text may take the place of its
-/// own, as those of its routines (`routines_fit`). No line of the data is a `.code`.
+/// own, as those of its routines do (`routines_fit`). No line of its data may be a `.code`, which is a premise.
 pub fn source_reads_back()
     ensures { (p : Program) (out : Output) (behind end : ℕ) (lines : List Line) → All (LineFits p) lines
         → lines_text p out.lines.items ≡ lines_text p lines → StaysData (lines_of (after_data p out behind end))
