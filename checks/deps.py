@@ -35,6 +35,10 @@ EXCEPT = {
     ("mx_tasks", "law_interrupts"),
     ("law_profile", "lab_profile"),
     ("law_certify", "lab_certify"),
+    ("law_emit", "cc_lines"),
+    ("law_emit", "cc_rules"),
+    ("law_emit", "cc_program"),
+    ("law_emit", "cc_emit"),
 }
 # The top call and the four programs stand on all that they call.
 TOPS = {"mx_command": {"law", "cmd"}, "mx_run": {"cmd"}, "mx_lab": {"cmd", "lab"}, "mx_cc": {"cmd", "cc"}, "mx_serve": {"cmd", "lab", "embed"}}

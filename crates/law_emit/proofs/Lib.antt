@@ -1,0 +1,11 @@
+pub mod Alone
+pub mod Data
+pub mod Labels
+pub mod Lines
+pub mod Comments
+pub mod Names
+pub mod Operands
+pub mod Places
+pub mod Routines
+pub mod Splitting
+pub mod Statements

@@ -1,0 +1,64 @@
+-- How the text of a translation's code is read.
+use Rattle.std.specs.Prelude.{◌≡◌, ℕ, ◌+◌, ◌-◌, ◌/◌, List, [], ◌∷◌, ◌++◌, All, count_by, Option, Some, None, Result, Ok}
+use Rattle.mx_lex.specs.Lines.{lines_of}
+use Rattle.mx_source.specs.declared.statement.Label.{Label}
+use Rattle.mx_source.specs.declared.statement.Label.TheVariants as label
+use Rattle.mx_source.specs.declared.statement.Statement.{Statement}
+use Rattle.mx_source.specs.SourceValue.{SourceValue}
+use Rattle.mx_lines.specs.declared.fault.Fault.{Fault}
+use Rattle.mx_lines.specs.Instructions.{Labels}
+use Rattle.mx_lines.specs.Reading.{◌>>=◌}
+use Rattle.mx_asm.specs.Directives.{Effect}
+use Rattle.mx_asm.specs.declared.position.Section.TheVariants as section
+use Rattle.mx_asm.specs.Positions.{define, labels_from, section_after, statement_words, line_words}
+use Rattle.mx_asm.specs.Texts.{effects_from, statements_in, values_in, input_in}
+use Rattle.cc_rules.specs.declared.numbers.TheConstants.{FIRST_BYTE}
+use Rattle.cc_program.specs.declared.program.Program.{Program}
+use Rattle.cc_emit.specs.declared.line.Line.{Line}
+use Rattle.cc_emit.specs.declared.output.Output.{Output}
+use Rattle.cc_emit.specs.Data.{added_text}
+use Rattle.cc_emit.specs.Images.{image_of}
+use Rattle.cc_emit.specs.Lines.{is_statement}
+use Rattle.cc_emit.specs.Sources.{words_text, size_text}
+use Rattle.law_emit.specs.Reading.{line_statement, line_names, statement_count, code_at}
+
+-- the labels with these names, of which the first definition holds
+abbrev pub define_all : Labels → Label → List (List ℕ) → Labels
+define_all labels l [] = labels
+define_all labels l (name ∷ names) = define_all (define labels l name) l names
+
+-- the labels with those of lines, each of which names the statement after it
+abbrev pub code_labels : Program → ℕ → Labels → List Line → Labels
+code_labels p index labels [] = labels
+code_labels p index labels (line ∷ lines) =
+    code_labels p (index + statement_count line) (define_all labels (label.Code index) (line_names p line)) lines
+
+abbrev pub before : Option (Result Statement Fault) → Result (List Statement) Fault → Result (List Statement) Fault
+before None rest = rest
+before (Some result) rest = result >>= λ s. rest >>= λ ss. Ok (s ∷ ss)
+
+-- the statements that lines are, or the first fault of one
+abbrev pub resolve : Labels → Program → List Line → Result (List Statement) Fault
+resolve labels p [] = Ok []
+resolve labels p (line ∷ lines) = before (line_statement labels p line) (resolve labels p lines)
+
+-- the source of a text has the labels and the statements of lines, and then what follows their text
+pub record IsSourceOf (p : Program) (lines : List Line) (address : ℕ) (rest : List ℕ) (source : SourceValue) : Type 0 where
+  pub labels : source.labels ≡ labels_from (code_at (count_by is_statement lines) address) (code_labels p 0 [] lines) (lines_of rest)
+  pub own : List Statement
+  pub resolved : resolve source.labels p lines ≡ Ok own
+  pub number : ℕ
+  pub effects : List (ℕ × Effect)
+  pub follow : effects ≡ effects_from source.labels (code_at (count_by is_statement lines) address) number (lines_of rest)
+  pub statements : source.statements ≡ own ++ statements_in effects
+  pub user_data : source.user_data ≡ values_in effects
+  pub input : source.input ≡ input_in effects
+
+-- each line leaves the section of data as it is
+abbrev pub StaysData : List (List ℕ) → Type 0
+StaysData lines = All (λ line. section_after section.Data (statement_words (line_words line)) ≡ section.Data) lines
+
+-- the text of a source after the directives in front of its data
+abbrev pub after_data : Program → Output → ℕ → ℕ → List ℕ
+after_data p out behind end =
+    words_text p (image_of p behind end) ++ added_text out end ++ size_text out.statements out.instructions ((end - FIRST_BYTE) / 4)
