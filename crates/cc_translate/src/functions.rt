@@ -1,9 +1,9 @@
 //! The translation of a function.
 
-use crate::memory::SECOND;
 use crate::statements::translate_statement;
 use cc_emit::{Line, Output, Target};
 use cc_lines::{Instruction, LinkFrom, Register, Width};
+use cc_operations::SECOND;
 use cc_plan::{Plan, Planned, plans_of};
 use cc_program::{Function, Item, Program};
 use std::alloc::{AllocError, Global};

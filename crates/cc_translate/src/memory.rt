@@ -4,19 +4,10 @@ use cc_emit::{
     Computed, Line, Mask, Output, Plain, Transfer, Word, compute_line, is_short, shift_line,
 };
 use cc_lines::{Register, Width};
+use cc_operations::{FIRST, SECOND, THIRD};
 use cc_plan::Place;
 use cc_program::Function;
 use std::alloc::AllocError;
-
-/// The first of the registers for what a statement needs between its words. Texts of several statements name them as r1, r26 and
-/// r27, and r22 where three are not enough.
-pub(crate) const FIRST: u8 = 1;
-
-/// The second one.
-pub(crate) const SECOND: u8 = 26;
-
-/// The third one.
-const THIRD: u8 = 27;
 
 /// The word of the input.
 const INPUT_WORD: u32 = 254;
@@ -77,14 +68,6 @@ pub(crate) fn add_constant(out: &mut Output, rs: u8, value: u32, rd: u8) -> Resu
         out.first = None;
     }
     Ok(())
-}
-
-/// Copies a register.
-pub(crate) fn copy(out: &mut Output, rs: u8, rd: u8) -> Result<(), AllocError> {
-    if rs == rd || rd == 0 {
-        return Ok(());
-    }
-    out.plain(Plain::Move { rs, rd })
 }
 
 /// Computes the address of a far datum, and a quarter of it.

@@ -1,16 +1,19 @@
 //! The translation of one statement, by itself and its plan.
 
 use crate::memory::{
-    FIRST, SECOND, add_constant, call_at, constant, copy, is_misaligned, is_null, jump_at,
-    load_statement, store_statement,
+    add_constant, call_at, constant, is_misaligned, is_null, jump_at, load_statement,
+    store_statement,
 };
 use cc_emit::{
-    Computed, Line, Output, Plain, Routine, Target, Transfer, Word, compute_line, is_short,
-    shift_line,
+    Computed, Line, Output, Plain, Routine, Target, Transfer, Word, compute_line, shift_line,
 };
 use cc_lines::{
     Condition, Instruction, LinkFrom, Long, Operation, Refusal, Register, Shift, Source, Special,
     Width,
+};
+use cc_operations::{
+    FIRST, SECOND, compute_registers, copy, set_if_below, set_if_negative, set_if_not_zero,
+    set_if_zero, shift_by, signs_of,
 };
 use cc_plan::{Comparison, FRAME_WORDS, HI, Place, Planned, STACK_WORDS, Step, bit, tested_by};
 use cc_program::{Function, Meaning, Program};
@@ -75,62 +78,6 @@ fn branch_by_bits(
     branch(out, found, symbol)
 }
 
-/// 1 where a register is 0, else 0.
-fn set_if_zero(out: &mut Output, a: u8, rd: u8) -> Result<(), AllocError> {
-    out.push_all(&[
-        Line::Plain(Plain::Addi {
-            rs: a,
-            number: -1,
-            rd: 26,
-        }),
-        compute_line(Computed::Bic, 26, a, 26),
-        shift_line(26, 0, 31, rd),
-    ])
-}
-
-/// 1 where a register is not 0, else 0.
-fn set_if_not_zero(out: &mut Output, a: u8, rd: u8) -> Result<(), AllocError> {
-    out.push_all(&[
-        compute_line(Computed::Sub, 0, a, 26),
-        compute_line(Computed::Or, 26, a, 26),
-        shift_line(26, 0, 31, rd),
-    ])
-}
-
-/// 1 where a register is less than a number, else 0. That is bit 31 of their difference, which `signs` corrects where it wraps.
-fn set_if_below(
-    out: &mut Output,
-    signs: Computed,
-    a: u8,
-    value: u32,
-    rd: u8,
-) -> Result<(), AllocError> {
-    out.push_all(&[
-        Line::Plain(Plain::Addi {
-            rs: a,
-            number: value.wrapping_neg().cast_signed(),
-            rd: SECOND,
-        }),
-        compute_line(signs, SECOND, a, SECOND),
-        shift_line(SECOND, 0, 31, rd),
-    ])
-}
-
-/// What corrects bit 31 of the difference of a register and a number by the register: `or` for a number that is not negative, as a
-/// negative register is less than that; `and` for a negative one, as only a negative register is less; `bic` without signs, as a
-/// register of 2^31 or more is not less. `None` where no statement holds the negated number.
-fn signs_of(condition: Condition, value: u32) -> Option<Computed> {
-    if !is_short(value.wrapping_neg().cast_signed()) {
-        return None;
-    }
-    match condition {
-        Condition::Less if value < 0x8000_0000 => Some(Computed::Or),
-        Condition::Less => Some(Computed::And),
-        Condition::Lower if value < 0x8000_0000 => Some(Computed::Bic),
-        _ => None,
-    }
-}
-
 /// 1 where a condition holds of two registers, else 0, by a branch.
 fn set_over(
     out: &mut Output,
@@ -181,65 +128,11 @@ fn is_zero(second: Source) -> bool {
 fn set(out: &mut Output, rd: u8, found: Comparison) -> Result<(), AllocError> {
     let a = found.rs.0;
     match found.condition {
-        Condition::Less if is_zero(found.second) => out.shift(a, 0, 31, rd),
+        Condition::Less if is_zero(found.second) => set_if_negative(out, a, rd),
         Condition::Equal if is_zero(found.second) => set_if_zero(out, a, rd),
         Condition::NotEqual if is_zero(found.second) => set_if_not_zero(out, a, rd),
         _ => set_against(out, rd, found),
     }
-}
-
-/// Turns each bit of a word.
-fn complement(out: &mut Output, rs: u8, rd: u8) -> Result<(), AllocError> {
-    out.plain(Plain::Not { rs, rd })
-}
-
-/// What is computed of two registers, but for `nor` and comparisons.
-fn computed(op: Operation) -> Computed {
-    match op {
-        Operation::Sub => Computed::Sub,
-        Operation::And => Computed::And,
-        Operation::Or => Computed::Or,
-        Operation::Xor => Computed::Xor,
-        _ => Computed::Add,
-    }
-}
-
-/// Whether an operation with register 0 is a copy.
-fn is_copy(op: Operation, b: u8) -> bool {
-    b == 0
-        && matches!(
-            op,
-            Operation::Add | Operation::Sub | Operation::Or | Operation::Xor
-        )
-}
-
-/// `nor`.
-fn nor(out: &mut Output, rd: u8, rs: u8, rt: u8) -> Result<(), AllocError> {
-    if rt == 0 {
-        return complement(out, rs, rd);
-    }
-    if rs == 0 {
-        return complement(out, rt, rd);
-    }
-    out.compute(Computed::Or, rs, rt, rd)?;
-    complement(out, rd, rd)
-}
-
-/// What is computed of two registers.
-fn compute_registers(
-    out: &mut Output,
-    op: Operation,
-    rd: u8,
-    rs: u8,
-    rt: u8,
-) -> Result<(), AllocError> {
-    if is_copy(op, rt) {
-        return copy(out, rs, rd);
-    }
-    if op == Operation::Nor {
-        return nor(out, rd, rs, rt);
-    }
-    out.compute(computed(op), rs, rt, rd)
 }
 
 /// What is computed of a register and a second operand.
@@ -408,20 +301,6 @@ fn routine(out: &mut Output, which: Routine) -> Result<(), AllocError> {
         to: Target::Routine(which),
         link: LINK_OF_ROUTINES,
     })
-}
-
-/// A shift by a number.
-fn shift_by(out: &mut Output, op: Shift, rd: u8, rs: u8, count: u32) -> Result<(), AllocError> {
-    let count = (count % 32) as u8;
-    if count == 0 {
-        return copy(out, rs, rd);
-    }
-    match op {
-        Shift::Left => out.shift(0, rs, 32 - count, rd),
-        Shift::Right => out.shift(rs, 0, count, rd),
-        Shift::Arithmetic => out.plain(Plain::Asr { rs, count, rd }),
-        Shift::Rotate => out.shift(rs, rs, 32 - count, rd),
-    }
 }
 
 /// A shift by a register: its routine begins at another place for each count.

@@ -1,0 +1,10 @@
+//! What operations on registers become that need neither memory nor branches: a few instructions of the machine.
+#![tactic(auto)]
+
+mod between;
+mod comparisons;
+mod registers;
+
+pub use between::{FIRST, SECOND, THIRD};
+pub use comparisons::{set_if_below, set_if_negative, set_if_not_zero, set_if_zero, signs_of};
+pub use registers::{compute_registers, copy, shift_by};

@@ -1,0 +1,4 @@
+pub mod Bits
+pub mod Steps
+pub mod Operations
+pub mod Comparisons
