@@ -1,8 +1,7 @@
 //! A run with many caches.
 ghost use Rattle.std.specs.Prelude.{◌≡◌};
 
-use super::alike::Caches;
-use super::cache::Cache;
+use lab_cache::{Cache, Caches, QuickCache};
 use lab_terms::Geometry;
 use mx_board::Requests;
 use mx_io::Memory;
@@ -83,18 +82,21 @@ fn run<M: Machine>(machine: &mut M, requests: &Requests, budget: u32, all: &mut 
 
 // What a cache makes of a run with so many fetches.
 fn row_of(cache: &Cache, fetches: u64) -> CacheRow {
-    let (geometry, misses) = (cache.geometry(), cache.misses());
     CacheRow {
-        geometry,
-        misses,
-        cycles: geometry.cycles(fetches, misses),
+        geometry: cache.geometry,
+        misses: cache.misses,
+        cycles: cache.geometry.cycles(fetches, cache.misses),
     }
 }
 
 // Adds what these caches make of a run with so many fetches, which has ended.
-fn push_rows(rows: &mut Vec<CacheRow>, caches: &[Cache], fetches: u64) -> Result<(), AllocError> {
-    for cache in caches {
-        rows.push(row_of(cache, fetches))?;
+fn push_rows(
+    rows: &mut Vec<CacheRow>,
+    caches: &[QuickCache],
+    fetches: u64,
+) -> Result<(), AllocError> {
+    for quick in caches {
+        rows.push(row_of(&quick.cache, fetches))?;
     }
     Ok(())
 }
@@ -107,7 +109,8 @@ fn rows_of(
 ) -> Result<Vec<CacheRow>, AllocError> {
     let mut rows = Vec::new(alloc);
     for caches in all.iter_mut() {
-        push_rows(&mut rows, caches.ended(), fetches)?;
+        caches.end();
+        push_rows(&mut rows, caches.caches.as_slice(), fetches)?;
     }
     Ok(rows)
 }

@@ -1,0 +1,8 @@
+mod Machine
+mod Fetches
+mod Ones
+mod Visits
+mod SetSteps
+mod CacheSteps
+mod Known
+mod Going

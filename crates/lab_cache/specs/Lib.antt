@@ -1,0 +1,5 @@
+pub mod Misses
+pub mod Visits
+pub mod Sets
+pub mod Quick
+pub mod Alike
