@@ -12,7 +12,6 @@ use Rattle.lab_cache.specs.declared.quick.QuickCache.{QuickCache}
 use Rattle.lab_cache.specs.declared.alike.Caches.{Caches}
 use Rattle.lab_cache.specs.declared.alike.Visit.{Visit}
 use Rattle.lab_cache.specs.Visits.{IsVisit}
-use Rattle.lab_cache.specs.Quick.{Visits}
 use Rattle.lab_cache.specs.Alike.{AreAlike, AreBits, AreHeld, AllVisits, IsGoing, CachesHold}
 use Rattle.lab_cache.proofs.SetSteps.{at_set_same, at_set_other}
 use Rattle.lab_cache.proofs.Ones.{same_mask, is_set-or, is_set-pow}
@@ -167,20 +166,19 @@ module _ (c : Caches) (gs : List Geometry) (brings : ℕ) (before visit : List �
   going_still zero_it =
       subst (λ v. IsGoing c gs brings (v ++ before) []) (sym (no_visit zero_it)) (subst (λ v. IsGoing c gs brings before v) (no_visit zero_it) going)
 
--- one more cache took the visit
-pub one_more_visit : (old items : List QuickCache) (n l groups : ℕ) (new : QuickCache) (d : QuickCache)
-    → ((k : ℕ) → n ≤ k → slice_get items k ≡ slice_get old k) → ((k : ℕ) (one other : QuickCache) → k < n → slice_get old k ≡ Some one
-    → slice_get items k ≡ Some other → Visits one other l groups) → n < length items → Visits (get_or items n d) new l groups
-    → (k : ℕ) (one other : QuickCache) → k < n + 1 → slice_get old k ≡ Some one → slice_get (set items n new) k ≡ Some other → Visits one other l groups
-one_more_visit old items n l groups new d later before within visits k one other below at at' =
-    elim (eqb k n) as (λ t. eqb k n ≡ t → Visits one other l groups) [
+-- one more took a step
+pub one_more : {X : Type 0} (R : X → X → Type 0) (old items : List X) (n : ℕ) (new d : X) → ((k : ℕ) → n ≤ k → slice_get items k ≡ slice_get old k)
+    → ((k : ℕ) (one other : X) → k < n → slice_get old k ≡ Some one → slice_get items k ≡ Some other → R one other) → n < length items
+    → R (get_or items n d) new → (k : ℕ) (one other : X) → k < n + 1 → slice_get old k ≡ Some one → slice_get (set items n new) k ≡ Some other → R one other
+one_more R old items n new d later before within step k one other below at at' =
+    elim (eqb k n) as (λ t. eqb k n ≡ t → R one other) [
       | true ↦ λ e.
           let here : k ≡ n = grind (arith, nat_tests) in
           let was : slice_get items n ≡ Some (get_or items n d) = slice_get-get_or items n d within in
           let from : Some one ≡ Some (get_or items n d) = sym at ∙ ap (λ i. slice_get old i) here ∙ sym (later n (omega arith)) ∙ was in
           let same : one ≡ get_or items n d = cc in
           let is : other ≡ new = at_set_same items n new other (ap (λ i. slice_get (set items n new) i) (sym here) ∙ at') in
-          rw (same, is) visits
+          rw (same, is) step
       | false ↦ λ e.
           let there : k ≢ n = grind (arith, nat_tests) in
           before k one other (omega arith) at (sym (at_set_other items n k new there) ∙ at')

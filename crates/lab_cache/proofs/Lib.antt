@@ -6,3 +6,4 @@ mod SetSteps
 mod CacheSteps
 mod Known
 mod Going
+mod Groups

@@ -3,3 +3,4 @@ pub mod Visits
 pub mod Sets
 pub mod Quick
 pub mod Alike
+pub mod All

@@ -2,12 +2,11 @@
 #![tactic(auto)]
 
 mod alike;
+mod all;
 mod cache;
 mod laws;
 mod quick;
 mod set;
 
-pub use alike::Caches;
-pub use cache::Cache;
+pub use all::{AllCaches, Counted};
 pub use laws::machine_agrees;
-pub use quick::QuickCache;

@@ -1,9 +1,10 @@
 use Rattle.std.proofs.Common.{◌≡◌, ◌<◌, ◌++◌, length, take, drop, subst, sym, ◌∙◌, ap, arith}
 use Rattle.std.proofs.lemmas.List.{length-set}
 use Rattle.std.proofs.lemmas.Option.{slice_get_within}
+use Rattle.lab_cache.specs.Quick.{Visits}
 use Rattle.lab_cache.specs.Alike.{AllVisits}
 use Rattle.lab_cache.proofs.SetSteps.{at_set_other}
-use Rattle.lab_cache.proofs.Going.{one_more_visit, take_front}
+use Rattle.lab_cache.proofs.Going.{one_more, take_front}
 use Rattle.lab_cache.proofs.alike.visit_all.Goals as goal
 
 pub loop-cache-preserved : goal.loop-cache-preserved
@@ -13,8 +14,8 @@ loop-cache-preserved c =
       length-set c.loop-cache.cache-items c.loop-cache.cache-index c.visit.new.self ∙ c.loop-cache.invariant.0,
       λ k le. at_set_other c.loop-cache.cache-items c.loop-cache.cache-index k c.visit.new.self (omega (arith, le))
           ∙ c.loop-cache.invariant.1 k (omega (arith, le)),
-      one_more_visit c.deref_mut-cache-items.result.now c.loop-cache.cache-items c.loop-cache.cache-index c.args.line c.args.groups c.visit.new.self
-          c.cache-item.result c.loop-cache.invariant.1 c.loop-cache.invariant.2 inside c.visit.ensures,
+      one_more (λ one other. Visits one other c.args.line c.args.groups) c.deref_mut-cache-items.result.now c.loop-cache.cache-items c.loop-cache.cache-index
+          c.visit.new.self c.cache-item.result c.loop-cache.invariant.1 c.loop-cache.invariant.2 inside c.visit.ensures,
     )
 
 pub returns : goal.returns
