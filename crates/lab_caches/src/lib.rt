@@ -1,8 +1,6 @@
 //! What other caches of code words would make of a run.
 #![tactic(auto)]
 
-mod alike;
-mod cache;
 mod chart;
 mod document;
 mod study;

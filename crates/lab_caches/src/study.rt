@@ -1,8 +1,7 @@
 //! A run with many caches.
 ghost use Rattle.std.specs.Prelude.{◌≡◌};
 
-use super::alike::Caches;
-use super::cache::Cache;
+use lab_cache::{AllCaches, Counted};
 use lab_terms::Geometry;
 use mx_board::Requests;
 use mx_io::Memory;
@@ -26,47 +25,15 @@ pub struct Study {
     pub rows: Vec<CacheRow>,
 }
 
-// Adds empty caches whose lines are alike.
-fn push_caches(alloc: Global, all: &mut Vec<Caches>, alike: &[Geometry]) -> Result<(), AllocError> {
-    if let Some(geometry) = alike.first() {
-        all.push(Caches::new(alloc, geometry.line, geometry.brings, alike)?)?;
-    }
-    Ok(())
-}
-
-// Adds empty caches, those that have the same lines side by side.
-fn push_all(
-    alloc: Global,
-    all: &mut Vec<Caches>,
-    geometries: &[Geometry],
-) -> Result<(), AllocError> {
-    for alike in geometries.chunk_by(|one, other| one.line == other.line
-        && one.brings == other.brings)
-    {
-        push_caches(alloc, all, alike)?;
-    }
-    Ok(())
-}
-
-// Empty caches, those that have the same lines side by side.
-fn caches_of(alloc: Global, geometries: &[Geometry]) -> Result<Vec<Caches>, AllocError> {
-    let mut all = Vec::new(alloc);
-    push_all(alloc, &mut all, geometries)?;
-    Ok(all)
-}
-
 // Has each cache fetch what the last turn of a machine fetched.
-fn fetch_in(all: &mut Vec<Caches>, fetch: Stage) {
-    let (Stage::Live(address) | Stage::Squashed(address)) = fetch else {
-        return;
-    };
-    for caches in all.iter_mut() {
-        caches.fetch(address);
+fn fetch_in(all: &mut AllCaches, fetch: Stage) {
+    if let Stage::Live(address) | Stage::Squashed(address) = fetch {
+        all.fetch(address);
     }
 }
 
 // Runs a machine until it halts or the budget is spent; answers whether it halted.
-fn run<M: Machine>(machine: &mut M, requests: &Requests, budget: u32, all: &mut Vec<Caches>) -> bool
+fn run<M: Machine>(machine: &mut M, requests: &Requests, budget: u32, all: &mut AllCaches) -> bool
     requires { M.cycles machine.old ≡ 0 }
 {
     for cycle in 0..budget {
@@ -82,34 +49,31 @@ fn run<M: Machine>(machine: &mut M, requests: &Requests, budget: u32, all: &mut 
 }
 
 // What a cache makes of a run with so many fetches.
-fn row_of(cache: &Cache, fetches: u64) -> CacheRow {
-    let (geometry, misses) = (cache.geometry(), cache.misses());
+fn row_of(counted: &Counted, fetches: u64) -> CacheRow {
     CacheRow {
-        geometry,
-        misses,
-        cycles: geometry.cycles(fetches, misses),
+        geometry: counted.geometry,
+        misses: counted.misses,
+        cycles: counted.geometry.cycles(fetches, counted.misses),
     }
 }
 
-// Adds what these caches make of a run with so many fetches, which has ended.
-fn push_rows(rows: &mut Vec<CacheRow>, caches: &[Cache], fetches: u64) -> Result<(), AllocError> {
-    for cache in caches {
-        rows.push(row_of(cache, fetches))?;
-    }
-    Ok(())
-}
-
-// What each cache makes of a run with so many fetches, which has ended.
-fn rows_of(
-    alloc: Global,
-    all: &mut Vec<Caches>,
-    fetches: u64,
-) -> Result<Vec<CacheRow>, AllocError> {
+// What each cache makes of a run with so many fetches.
+fn rows_of(alloc: Global, all: &[Counted], fetches: u64) -> Result<Vec<CacheRow>, AllocError> {
     let mut rows = Vec::new(alloc);
-    for caches in all.iter_mut() {
-        push_rows(&mut rows, caches.ended(), fetches)?;
+    for counted in all {
+        rows.push(row_of(counted, fetches))?;
     }
     Ok(rows)
+}
+
+// What caches that have fetched what a run did make of it.
+fn ended_rows(
+    alloc: Global,
+    all: &mut AllCaches,
+    fetches: u64,
+) -> Result<Vec<CacheRow>, AllocError> {
+    let counted = all.counted(alloc)?;
+    rows_of(alloc, counted.as_slice(), fetches)
 }
 
 // Runs a machine from its start, and has these caches fetch what it fetches.
@@ -117,13 +81,13 @@ fn study_with<M: Machine>(
     alloc: Global,
     machine: &mut M,
     budget: u32,
-    all: &mut Vec<Caches>,
+    all: &mut AllCaches,
 ) -> Result<Study, Memory>
     requires { M.cycles machine.old ≡ 0 }
 {
     let halted = run(machine, &Requests::none(alloc), budget, all);
     let counts = machine.counts();
-    match rows_of(alloc, all, counts.fetches) {
+    match ended_rows(alloc, all, counts.fetches) {
         Ok(rows) => Ok(Study {
             counts,
             halted,
@@ -143,7 +107,7 @@ pub fn study_of<M: Machine>(
 ) -> Result<Study, Memory>
     requires { M.cycles machine.old ≡ 0 }
 {
-    match caches_of(alloc, geometries) {
+    match AllCaches::new(alloc, geometries) {
         Ok(mut all) => study_with(alloc, machine, budget, &mut all),
         Err(_) => Err(Memory),
     }

@@ -1,0 +1,9 @@
+mod Machine
+mod Fetches
+mod Ones
+mod Visits
+mod SetSteps
+mod CacheSteps
+mod Known
+mod Going
+mod Groups
