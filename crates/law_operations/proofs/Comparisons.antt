@@ -21,7 +21,7 @@ use Rattle.cc_operations.specs.Comparisons as lines
 use Rattle.law_emit.specs.Statements.{operation}
 use Rattle.law_operations.specs.Runs.{ran, HoldsWords, ShowsValue, Gives}
 use Rattle.law_operations.proofs.Bits.{right_is, difference, zero_top, not_zero_top, negative_top, lower_top, less_top, less_negative_top}
-use Rattle.law_operations.proofs.Steps.{written, gives_as, computes, corrected}
+use Rattle.law_operations.proofs.Steps.{written, gives_as, computes, corrected, count_fits}
 
 -- only numbers are compared here
 one_number : (c : Condition) (a : Value) (n x : ℕ) (t : Bool) → ShowsValue a x → compared c a (Number n) ≡ Ok t → truth (holds c x n) ≡ truth t
@@ -33,18 +33,18 @@ pub negative_holds : (rd rs : ℕ) (a : Value) (t : Bool) (bus : Bus) (s : Core)
     → ShowsValue a (reg s.regs rs) → compared Less a (Number 0) ≡ Ok t → Gives rd (Number (truth t)) s (ran bus (lines.negative rs rd) s)
 negative_holds rd rs a t bus s h x e =
     gives_as rd _ _ s _ (λ k. right_is (reg s.regs rs) 31 ∙ negative_top _ (h rs) ∙ one_number Less a 0 _ t x e)
-    (computes bus rs rd 0 (machine.Sh 31) s refl)
+    (let c : 31 ≤ 31 = omega arith in computes bus rs rd 0 (machine.Sh 31) s h c refl)
 
 pub zero_holds : (rd rs : ℕ) (a : Value) (t : Bool) (bus : Bus) (s : Core) → HoldsWords s.regs → rs ≢ 26
     → ShowsValue a (reg s.regs rs) → compared Equal a (Number 0) ≡ Ok t → Gives rd (Number (truth t)) s (ran bus (lines.zero rs rd) s)
 zero_holds rd rs a t bus s h ne x e =
-    corrected bus rs rd _ _ machine.Bic s _ refl ne (written 26 ((reg s.regs rs + (2 ^ 32 - 1)) % 2 ^ 32) s)
+    corrected bus rs rd _ _ machine.Bic s _ tt refl ne (written 26 ((reg s.regs rs + (2 ^ 32 - 1)) % 2 ^ 32) s h (omega arith))
     (zero_top _ (h rs) ∙ one_number Equal a 0 _ t x e)
 
 pub not_zero_holds : (rd rs : ℕ) (a : Value) (t : Bool) (bus : Bus) (s : Core) → HoldsWords s.regs → rs ≢ 26
     → ShowsValue a (reg s.regs rs) → compared NotEqual a (Number 0) ≡ Ok t → Gives rd (Number (truth t)) s (ran bus (lines.not_zero rs rd) s)
 not_zero_holds rd rs a t bus s h ne x e =
-    corrected bus rs rd _ _ machine.Or s _ refl ne (written 26 ((0 + (2 ^ 32 - reg s.regs rs)) % 2 ^ 32) s)
+    corrected bus rs rd _ _ machine.Or s _ tt refl ne (written 26 ((0 + (2 ^ 32 - reg s.regs rs)) % 2 ^ 32) s h (omega arith))
     (not_zero_top _ (h rs) ∙ one_number NotEqual a 0 _ t x e)
 
 -- the sum with a negated number
@@ -100,6 +100,6 @@ pub below_holds : (c : Condition) (signs : Computed) (rd rs n : ℕ) (a : Value)
 below_holds c signs rs' rs n a t bus s h ne small e x k =
     let f = corrects (is_short (lines.negated n)) (lines.correction c n) signs e in
     let sum = word_of (reg s.regs rs + cast_unsigned w32 (lines.negated n)) in
-    let g = gives_as 26 _ (difference (reg s.regs rs) n) s _ (λ q. summed (reg s.regs rs) n) (written 26 sum s) in
-    corrected bus rs rs' _ _ (operation signs) s _ (no_md signs) ne g
+    let g = gives_as 26 _ (difference (reg s.regs rs) n) s _ (λ q. summed (reg s.regs rs) n) (written 26 sum s h (omega arith)) in
+    corrected bus rs rs' _ _ (operation signs) s _ (count_fits signs) (no_md signs) ne g
     (top_holds c signs (reg s.regs rs) n s.md (h rs) small f ∙ one_number c a n _ t x k)

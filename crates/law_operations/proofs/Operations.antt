@@ -25,16 +25,16 @@ use Rattle.cc_operations.specs.Operations as lines
 use Rattle.law_emit.specs.Statements.{operation}
 use Rattle.law_operations.specs.Runs.{ran, HoldsWords, ShowsValue, Gives}
 use Rattle.law_operations.proofs.Bits.{or_zero, xor_zero, left_is, right_is, rotate_is, shift_none}
-use Rattle.law_operations.proofs.Steps.{gives_as, untouched, twice, computes}
+use Rattle.law_operations.proofs.Steps.{gives_as, untouched, twice, computes, count_fits}
 
 -- a copy
 copied_by : (t : Bool) (bus : Bus) (rs rd : ℕ) (s : Core) → HoldsWords s.regs → (t ≡ true → (rs ≡ rd) ⊎ (rd ≡ 0))
     → Gives rd (Number (reg s.regs rs)) s (ran bus (cond t [] (Move rs rd ∷ [])) s)
-copied_by true bus rs rd s h same = untouched rd _ s (λ ne. ⊎_elim (λ e. ap (reg s.regs) (sym e)) (λ e. absurd (ne e)) (same refl))
+copied_by true bus rs rd s h same = untouched rd _ s h (λ ne. ⊎_elim (λ e. ap (reg s.regs) (sym e)) (λ e. absurd (ne e)) (same refl))
 copied_by false bus rs rd s h same =
     let small = h rs in
     let e : word_of (reg s.regs rs + 0) ≡ reg s.regs rs = omega arith in
-    gives_as rd _ _ s _ (λ k. e) (computes bus rs rd 0 machine.Add s refl)
+    gives_as rd _ _ s _ (λ k. e) (computes bus rs rd 0 machine.Add s h tt refl)
 
 either_of : (rs rd : ℕ) → (rs == rd || rd == 0) ≡ true → (rs ≡ rd) ⊎ (rd ≡ 0)
 either_of rs rd h = grind (arith, nat_tests)
@@ -47,7 +47,7 @@ by_copy : (t : Bool) (c : Computed) (bus : Bus) (rd rs rt v : ℕ) (s : Core) �
     → (t ≡ true → reg s.regs rs ≡ v) → result_of (operation c) (reg s.regs rs) (reg s.regs rt) s.md ≡ v
     → Gives rd (Number v) s (ran bus (cond t (lines.copied rs rd) (Compute c rs rt rd ∷ [])) s)
 by_copy true c bus rd rs rt v s h m copy e = gives_as rd _ v s _ (λ k. copy refl) (copied_gives bus rs rd s h)
-by_copy false c bus rd rs rt v s h m copy e = gives_as rd _ v s _ (λ k. e) (computes bus rs rd rt (operation c) s m)
+by_copy false c bus rd rs rt v s h m copy e = gives_as rd _ v s _ (λ k. e) (computes bus rs rd rt (operation c) s h (count_fits c) m)
 
 zero_second : (r : Words) (n : ℕ) (k : Bool) → (n == 0 && k) ≡ true → reg r n ≡ 0
 zero_second r n k h = grind (arith, nat_tests)
@@ -59,19 +59,19 @@ never false h = absurd (cc)
 zero_reg : (r : Words) (n : ℕ) → (n == 0) ≡ true → reg r n ≡ 0
 zero_reg r n h = grind (arith, nat_tests)
 
-nor_by : (p q : Bool) (bus : Bus) (rd rs rt : ℕ) (s : Core) → (p ≡ true → reg s.regs rt ≡ 0) → (q ≡ true → reg s.regs rs ≡ 0)
+nor_by : (p q : Bool) (bus : Bus) (rd rs rt : ℕ) (s : Core) → HoldsWords s.regs → (p ≡ true → reg s.regs rt ≡ 0) → (q ≡ true → reg s.regs rs ≡ 0)
     → Gives rd (Number (2 ^ 32 - 1 - bit_or (reg s.regs rs) (reg s.regs rt))) s
     (ran bus (cond p (lines.complemented rs rd) (cond q (lines.complemented rt rd) (Compute Or rs rt rd ∷ lines.complemented rd rd))) s)
-nor_by true q bus rd rs rt s f g =
+nor_by true q bus rd rs rt s h f g =
     let e : bit_or (reg s.regs rs) (reg s.regs rt) ≡ reg s.regs rs = ap (bit_or (reg s.regs rs)) (f refl) ∙ or_zero _ in
-    gives_as rd _ _ s _ (λ k. ap (λ n. 2 ^ 32 - 1 - n) (sym e)) (computes bus rs rd 0 machine.Not s refl)
-nor_by false true bus rd rs rt s f g =
+    gives_as rd _ _ s _ (λ k. ap (λ n. 2 ^ 32 - 1 - n) (sym e)) (computes bus rs rd 0 machine.Not s h tt refl)
+nor_by false true bus rd rs rt s h f g =
     let e : bit_or (reg s.regs rs) (reg s.regs rt) ≡ reg s.regs rt = ap (λ n. bit_or n (reg s.regs rt)) (g refl) in
-    gives_as rd _ _ s _ (λ k. ap (λ n. 2 ^ 32 - 1 - n) (sym e)) (computes bus rt rd 0 machine.Not s refl)
-nor_by false false bus rd rs rt s f g =
-    let k = computes bus rs rd rt machine.Or s refl in
+    gives_as rd _ _ s _ (λ k. ap (λ n. 2 ^ 32 - 1 - n) (sym e)) (computes bus rt rd 0 machine.Not s h tt refl)
+nor_by false false bus rd rs rt s h f g =
+    let k = computes bus rs rd rt machine.Or s h tt refl in
     let u = ran bus (Compute Or rs rt rd ∷ []) s in
-    twice rd _ _ s u _ k (gives_as rd _ _ u _ (λ ne. ap (λ n. 2 ^ 32 - 1 - n) (k.given ne)) (computes bus rd rd 0 machine.Not u refl))
+    twice rd _ _ s u _ k (gives_as rd _ _ u _ (λ ne. ap (λ n. 2 ^ 32 - 1 - n) (k.given ne)) (computes bus rd rd 0 machine.Not u k.words tt refl))
 
 operated_gives : (o : Operation) → is_comparison o ≡ false → (rd rs rt : ℕ) (bus : Bus) (s : Core) → HoldsWords s.regs
     → Gives rd (Number (operated o (reg s.regs rs) (reg s.regs rt))) s (ran bus (lines.operated o rd rs rt) s)
@@ -90,7 +90,7 @@ operated_gives op.Or c rd rs rt bus s h =
 operated_gives op.Xor c rd rs rt bus s h =
     by_copy (rt == 0 && true) Xor bus rd rs rt _ s h refl
     (λ e. sym (xor_zero _) ∙ ap (bit_xor (reg s.regs rs)) (sym (zero_second s.regs rt true e))) refl
-operated_gives op.Nor c rd rs rt bus s h = nor_by (rt == 0) (rs == 0) bus rd rs rt s (zero_reg s.regs rt) (zero_reg s.regs rs)
+operated_gives op.Nor c rd rs rt bus s h = nor_by (rt == 0) (rs == 0) bus rd rs rt s h (zero_reg s.regs rt) (zero_reg s.regs rs)
 operated_gives op.Less c rd rs rt bus s h = absurd (cc)
 operated_gives op.Lower c rd rs rt bus s h = absurd (cc)
 
@@ -123,10 +123,10 @@ operation_values o c rd rs rt a b v bus s h x y e =
 -- shifts
 shift_some : (o : Shift) (bus : Bus) (rd rs n : ℕ) (s : Core) → HoldsWords s.regs → 1 ≤ n → n ≤ 31
     → Gives rd (Number (shifted_by o (reg s.regs rs) n)) s (ran bus (lines.shift o rd rs n ∷ []) s)
-shift_some Left bus rd rs n s h l m = gives_as rd _ _ s _ (λ k. left_is (reg s.regs rs) n m l) (computes bus 0 rd rs (machine.Sh (32 - n)) s refl)
-shift_some Right bus rd rs n s h l m = gives_as rd _ _ s _ (λ k. right_is (reg s.regs rs) n) (computes bus rs rd 0 (machine.Sh n) s refl)
-shift_some Arithmetic bus rd rs n s h l m = computes bus rs rd 0 (machine.Asr n) s refl
-shift_some Rotate bus rd rs n s h l m = gives_as rd _ _ s _ (λ k. rotate_is (reg s.regs rs) n (h rs) m l) (computes bus rs rd rs (machine.Sh (32 - n)) s refl)
+shift_some Left bus rd rs n s h l m = gives_as rd _ _ s _ (λ k. left_is (reg s.regs rs) n m l) (let c : 32 - n ≤ 31 = omega arith in computes bus 0 rd rs (machine.Sh (32 - n)) s h c refl)
+shift_some Right bus rd rs n s h l m = gives_as rd _ _ s _ (λ k. right_is (reg s.regs rs) n) (computes bus rs rd 0 (machine.Sh n) s h m refl)
+shift_some Arithmetic bus rd rs n s h l m = computes bus rs rd 0 (machine.Asr n) s h m refl
+shift_some Rotate bus rd rs n s h l m = gives_as rd _ _ s _ (λ k. rotate_is (reg s.regs rs) n (h rs) m l) (let c : 32 - n ≤ 31 = omega arith in computes bus rs rd rs (machine.Sh (32 - n)) s h c refl)
 
 shift_by : (t : Bool) (o : Shift) (bus : Bus) (rd rs n : ℕ) (s : Core) → HoldsWords s.regs → n ≤ 31 → (t ≡ true → n ≡ 0) → (t ≡ false → 1 ≤ n)
     → Gives rd (Number (shifted_by o (reg s.regs rs) n)) s (ran bus (cond t (lines.copied rs rd) (lines.shift o rd rs n ∷ [])) s)

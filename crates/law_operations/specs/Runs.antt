@@ -30,10 +30,12 @@ ShowsValue (Partial bytes) w =
     ShowsByte bytes.first (w / 2 ^ 24 % 256) × ShowsByte bytes.second (w / 2 ^ 16 % 256)
     × ShowsByte bytes.third (w / 2 ^ 8 % 256) × ShowsByte bytes.fourth (w % 256)
 
--- register d shows a value, unless it is r0. Each other register but r26, and r0, has what it had, and so have MD, data and input
+-- register d shows a value, unless it is r0. Each other register but r26, and r0, has what it had, and so have MD, data and input.
+-- All registers hold words again
 pub record Gives (d : ℕ) (value : Value) (before after : Core) : Type 0 where
   pub given : d ≢ 0 → ShowsValue value (reg after.regs d)
   pub kept : (n : ℕ) → (n ≡ d → n ≡ 0) → n ≢ SECOND → reg after.regs n ≡ reg before.regs n
   pub md : after.md ≡ before.md
   pub mem : after.mem ≡ before.mem
   pub taken : after.taken ≡ before.taken
+  pub words : HoldsWords after.regs
