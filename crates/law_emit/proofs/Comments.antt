@@ -28,7 +28,7 @@ ends : (text : List ℕ) → next_token (59 ∷ text) 0 ≡ Ok (token kinds.End 
 unfolding next_token token_from
 ends text = rw (or_true (nat_le (length (59 ∷ text)) 0)) refl
 
-comment_words : (text : List ℕ) → words_of (59 ∷ text) ≡ Ok []
+pub comment_words : (text : List ℕ) → words_of (59 ∷ text) ≡ Ok []
 unfolding words_of tokens_of
 comment_words text =
     let line = 59 ∷ text in
@@ -67,7 +67,7 @@ digit_goes_on b h = let r = digit_from_value b h in plain b (omega arith) (omega
     plain : (b : ℕ) → 48 ≤ b → b ≤ 57 → goes_on b ≡ true
     plain b h k = grind (arith, nat_tests)
 
-digits_one : (ds : List ℕ) → AllDigits 10 ds → is_one_line ds ≡ true
+pub digits_one : (ds : List ℕ) → AllDigits 10 ds → is_one_line ds ≡ true
 digits_one [] h = refl
 digits_one (d ∷ ds) h = ap (λ t. t && is_one_line ds) (digit_goes_on d h.0) ∙ digits_one ds h.1
 

@@ -1,8 +1,8 @@
 -- Data have no statements.
-use Rattle.std.proofs.Common.{◌≡◌, ℕ, ◌+◌, ◌-◌, ◌/◌, ◌≤◌, Bool, true, false, cond, List, [], ◌∷◌, ◌++◌, Option, Some, None, Result, Ok, Err, refl, sym, ap, ◌∙◌, subst, append_assoc}
+use Rattle.std.proofs.Common.{◌≡◌, ℕ, ◌+◌, ◌-◌, ◌/◌, ◌^◌, ◌≤◌, ◌<◌, Bool, true, false, cond, List, [], ◌∷◌, ◌++◌, Option, Some, None, Result, Ok, Err, refl, sym, ap, ◌∙◌, subst, arith, append_assoc}
 use Rattle.std.specs.Prelude.{All, count_by, codes, min, replicate}
 use Rattle.std.proofs.lemmas.List.{append-nil}
-use Rattle.std.proofs.lemmas.List.Elements.{All-head, All-tail}
+use Rattle.std.proofs.lemmas.List.Elements.{All-nil, All-head, All-tail}
 use Rattle.mx_lex.specs.Lines.{lines_of}
 use Rattle.mx_source.specs.declared.statement.Statement.{Statement}
 use Rattle.mx_source.specs.declared.statement.Value.{Value}
@@ -30,9 +30,11 @@ use Rattle.cc_emit.specs.Data.{front_text, added_text}
 use Rattle.cc_emit.specs.Images.{image_of}
 use Rattle.cc_emit.specs.Lines.{is_statement, lines_text}
 use Rattle.cc_emit.specs.Sources.{title, code_text, data_text, words_text, size_text, source_text}
-use Rattle.law_emit.specs.Lines.{StaysData, resolve, after_data}
+use Rattle.law_emit.specs.Lines.{LineStays, StaysData, Stays, DataFits, resolve}
 use Rattle.law_emit.specs.Reading.{LineFits, code_at}
 use Rattle.law_emit.proofs.Alone.{alone}
+use Rattle.law_emit.proofs.DataAdded.{added_stays, size_stays}
+use Rattle.law_emit.proofs.DataLines.{both_stay}
 use Rattle.law_emit.proofs.Lines.{code_read}
 
 abbrev Adds : Result Effect Fault → Type 0
@@ -139,6 +141,27 @@ front_adds K index address number true more h =
     (Name (codes ".input") ∷ []) Input input_words refl refl refl (section_adds K (index + 0) (min (address + 0) PAST_END) (number + 1) more h)
 
 -- a whole source
+abbrev after_data : Program → Output → ℕ → ℕ → List ℕ
+after_data p out behind end =
+    words_text p (image_of p behind end) ++ added_text out end ++ size_text out.statements out.instructions ((end - FIRST_BYTE) / 4)
+
+nothing_left : StaysData (lines_of [])
+unfolding lines_of
+nothing_left = All-nil LineStays
+
+data_stays : (p : Program) (out : Output) (behind end : ℕ) → DataFits p out behind end → StaysData (lines_of (after_data p out behind end))
+data_stays p out behind end fits =
+    let words = words_text p (image_of p behind end) in
+    let added = added_text out end in
+    let size = size_text out.statements out.instructions ((end - FIRST_BYTE) / 4) in
+    let near = fits.last in
+    let small : (end - FIRST_BYTE) / 4 < 2 ^ 32 = omega (arith, near) in
+    let all : Stays (words ++ added ++ size) =
+    both_stay (words ++ added) size
+    (both_stay words added fits.words (added_stays out end fits.numbers fits.ends))
+    (size_stays out.statements out.instructions ((end - FIRST_BYTE) / 4) fits.statements fits.instructions small) in
+    subst (λ t. StaysData (lines_of t)) (append-nil (words ++ added ++ size)) (all [] nothing_left)
+
 whole_text : (p : Program) (out : Output) (behind end : ℕ) (lines : List Line) → lines_text p out.lines.items ≡ lines_text p lines
     → source_text p out behind end ≡ code_text p lines ++ (front_text out.input ++ after_data p out behind end)
 whole_text p out behind end lines same =
@@ -152,11 +175,12 @@ whole_text p out behind end lines same =
     parts a b c d = append_assoc (a ++ b) c d ∙ append_assoc a b (c ++ d) ∙ ap (λ t. a ++ t) (sym (append_assoc b c d))
 
 pub source_read : (p : Program) (out : Output) (behind end : ℕ) (lines : List Line) → All (LineFits p) lines
-    → lines_text p out.lines.items ≡ lines_text p lines → StaysData (lines_of (after_data p out behind end)) → (address limit : ℕ) → address ≤ PAST_END
+    → lines_text p out.lines.items ≡ lines_text p lines → DataFits p out behind end → (address limit : ℕ) → address ≤ PAST_END
     → (source : SourceValue) → TextReadsAs address limit (source_text p out behind end) source → resolve source.labels p lines ≡ Ok source.statements
-source_read p out behind end lines fits same stays address limit near source h =
+source_read p out behind end lines fits same kept address limit near source h =
     let rest = after_data p out behind end in
     let code = code_read p lines fits address limit near (front_text out.input ++ rest) source
     (subst (λ t. TextReadsAs address limit t source) (whole_text p out behind end lines same) h) in
-    let none = ap statements_in code.follow ∙ front_adds source.labels (count_by is_statement lines) address code.number out.input rest stays in
+    let none = ap statements_in code.follow ∙ front_adds source.labels (count_by is_statement lines) address code.number out.input rest
+    (data_stays p out behind end kept) in
     code.resolved ∙ ap Ok (sym (code.statements ∙ ap (λ ss. code.own ++ ss) none ∙ append-nil code.own))

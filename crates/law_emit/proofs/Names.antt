@@ -36,7 +36,7 @@ digits_continue : (ds : List ℕ) → AllDigits 10 ds → list_all continues_nam
 digits_continue [] h = refl
 digits_continue (d ∷ ds) h = ap (λ t. t && list_all continues_name ds) (digit_continues d h.0) ∙ digits_continue ds h.1
 
-name_goes_on : (name more : List ℕ) → is_name name ≡ true → list_all continues_name more ≡ true → is_name (name ++ more) ≡ true
+pub name_goes_on : (name more : List ℕ) → is_name name ≡ true → list_all continues_name more ≡ true → is_name (name ++ more) ≡ true
 name_goes_on [] more h k = cc
 name_goes_on (b ∷ bytes) more h k =
     let both = and_both (begins_name b) (list_all continues_name bytes) h in

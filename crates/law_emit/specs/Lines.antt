@@ -1,5 +1,5 @@
 -- How the text of a translation's code is read.
-use Rattle.std.specs.Prelude.{◌≡◌, ℕ, ◌+◌, ◌-◌, ◌/◌, List, [], ◌∷◌, ◌++◌, All, count_by, Option, Some, None, Result, Ok}
+use Rattle.std.specs.Prelude.{◌≡◌, ℕ, ◌+◌, ◌^◌, ◌<◌, List, [], ◌∷◌, ◌++◌, All, count_by, Option, Some, None, Result, Ok}
 use Rattle.mx_lex.specs.Lines.{lines_of}
 use Rattle.mx_source.specs.declared.statement.Label.{Label}
 use Rattle.mx_source.specs.declared.statement.Label.TheVariants as label
@@ -12,14 +12,12 @@ use Rattle.mx_asm.specs.Directives.{Effect}
 use Rattle.mx_asm.specs.declared.position.Section.TheVariants as section
 use Rattle.mx_asm.specs.Positions.{define, labels_from, section_after, statement_words, line_words}
 use Rattle.mx_asm.specs.Texts.{effects_from, statements_in, values_in, input_in}
-use Rattle.cc_rules.specs.declared.numbers.TheConstants.{FIRST_BYTE}
 use Rattle.cc_program.specs.declared.program.Program.{Program}
 use Rattle.cc_emit.specs.declared.line.Line.{Line}
 use Rattle.cc_emit.specs.declared.output.Output.{Output}
-use Rattle.cc_emit.specs.Data.{added_text}
 use Rattle.cc_emit.specs.Images.{image_of}
 use Rattle.cc_emit.specs.Lines.{is_statement}
-use Rattle.cc_emit.specs.Sources.{words_text, size_text}
+use Rattle.cc_emit.specs.Sources.{words_text}
 use Rattle.law_emit.specs.Reading.{line_statement, line_names, statement_count, code_at}
 
 -- the labels with these names, of which the first definition holds
@@ -54,11 +52,23 @@ pub record IsSourceOf (p : Program) (lines : List Line) (address : ℕ) (rest : 
   pub user_data : source.user_data ≡ values_in effects
   pub input : source.input ≡ input_in effects
 
--- each line leaves the section of data as it is
-abbrev pub StaysData : List (List ℕ) → Type 0
-StaysData lines = All (λ line. section_after section.Data (statement_words (line_words line)) ≡ section.Data) lines
+-- a line leaves the section of data as it is
+abbrev pub LineStays : List ℕ → Type 0
+LineStays line = section_after section.Data (statement_words (line_words line)) ≡ section.Data
 
--- the text of a source after the directives in front of its data
-abbrev pub after_data : Program → Output → ℕ → ℕ → List ℕ
-after_data p out behind end =
-    words_text p (image_of p behind end) ++ added_text out end ++ size_text out.statements out.instructions ((end - FIRST_BYTE) / 4)
+-- each of these lines does
+abbrev pub StaysData : List (List ℕ) → Type 0
+StaysData lines = All LineStays lines
+
+-- each line of this text does, before others that do
+abbrev pub Stays : List ℕ → Type 0
+Stays text = (rest : List ℕ) → StaysData (lines_of rest) → StaysData (lines_of (text ++ rest))
+
+-- the words of the program's data stay in their section, and numbers of the translation have 32 bits
+pub record DataFits (p : Program) (out : Output) (behind end : ℕ) : Type 0 where
+  pub words : Stays (words_text p (image_of p behind end))
+  pub numbers : All (λ n. n < 2 ^ 32) out.numbers.keys
+  pub ends : All (λ n. n < 2 ^ 32) out.ends.keys
+  pub statements : out.statements < 2 ^ 32
+  pub instructions : out.instructions < 2 ^ 32
+  pub last : end < 2 ^ 32

@@ -1,6 +1,5 @@
 //! Laws over the definitions.
 ghost use Rattle.std.specs.Prelude.{◌≡◌, ◌∷◌, ◌++◌, ◌≤◌, ℕ, List, [], All, count_by, Some, Ok};
-ghost use Rattle.mx_lex.specs.Lines.{lines_of};
 ghost use Rattle.mx_source.specs.SourceValue.{SourceValue};
 ghost use Rattle.mx_source.specs.declared.statement.Label.TheVariants.{Code};
 ghost use Rattle.mx_lines.specs.Instructions.{Labels};
@@ -15,7 +14,7 @@ ghost use Rattle.cc_emit.specs.Lines.{is_statement, lines_text};
 ghost use Rattle.cc_emit.specs.Routines.{routines_text};
 ghost use Rattle.cc_emit.specs.Sources.{code_text, source_text};
 ghost use Rattle.law_emit.specs.Reading.{LineFits, LineReads, line_names};
-ghost use Rattle.law_emit.specs.Lines.{IsSourceOf, StaysData, after_data, resolve};
+ghost use Rattle.law_emit.specs.Lines.{DataFits, IsSourceOf, resolve};
 ghost use Rattle.law_emit.specs.Routines.{routine_lines};
 
 /// The text of a line, of whatever kind, is one line, which the assembler reads as the statement and the labels that the line is, whatever
@@ -47,10 +46,11 @@ pub fn routines_fit()
 {}
 
 /// The source of a translation has the statements that its lines are by its labels. Lines with the same text may take the place of its
-/// own, as those of its routines do (`routines_fit`). No line of its data may be a `.code`, which is a premise.
+/// own, as those of its routines do (`routines_fit`). The data that the translation adds have no `.code`; that the words of the program's
+/// data have none is a premise.
 pub fn source_reads_back()
     ensures { (p : Program) (out : Output) (behind end : ℕ) (lines : List Line) → All (LineFits p) lines
-        → lines_text p out.lines.items ≡ lines_text p lines → StaysData (lines_of (after_data p out behind end))
+        → lines_text p out.lines.items ≡ lines_text p lines → DataFits p out behind end
         → (address limit : ℕ) → address ≤ PAST_END → (source : SourceValue) → ReadsAs address limit (source_text p out behind end) source
         → resolve source.labels p lines ≡ Ok source.statements }
 {}
