@@ -21,4 +21,4 @@ pub use line::{
 pub use output::Output;
 pub use routines::put_routines;
 pub use source::source_text;
-pub use words::end_of;
+pub use words::{Said, Writing, end_of};

@@ -16,11 +16,11 @@ use std::alloc::{AllocError, Global};
 
 /// What is said of a word of data besides its bytes.
 #[derive(Clone, Copy)]
-struct Said {
+pub struct Said {
     /// The symbol that it is the place of, if it is one.
-    place: Option<u32>,
+    pub place: Option<u32>,
     /// The number of the datum that begins there, if one does.
-    begins: Option<usize>,
+    pub begins: Option<usize>,
 }
 
 /// The words of all data: their bytes, and what is said of each.
@@ -239,7 +239,7 @@ fn after_first_word(bytes: &[u8]) -> &[u8]
 
 /// A line that is being written: words of 0, or words.
 #[derive(Clone, Copy)]
-enum Writing {
+pub enum Writing {
     Nothing,
     Zeros(u32),
     Words(u32),

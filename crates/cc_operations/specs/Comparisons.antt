@@ -1,5 +1,5 @@
 -- The instructions that comparisons with a number become: they leave the answer in bit 31 of a register, and shift it to rd.
-use Rattle.std.specs.Prelude.{ℕ, ℤ, negsuc, ◌-◌, ◌%◌, ◌^◌, cond, not, nat_lt, List, [], ◌∷◌, Option, Some, None}
+use Rattle.std.specs.Prelude.{ℕ, ℤ, negsuc, ◌-◌, ◌%◌, ◌^◌, cond, nat_lt, List, [], ◌∷◌, Option, Some, None}
 use Rattle.std.specs.Int.{w32, cast_signed}
 use Rattle.cc_lines.specs.declared.instruction.Condition.{Condition}
 use Rattle.cc_lines.specs.declared.instruction.Condition.TheVariants.{Less, Lower}

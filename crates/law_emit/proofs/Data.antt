@@ -34,6 +34,7 @@ use Rattle.law_emit.specs.Lines.{LineStays, StaysData, Stays, DataFits, resolve}
 use Rattle.law_emit.specs.Reading.{LineFits, code_at}
 use Rattle.law_emit.proofs.Alone.{alone}
 use Rattle.law_emit.proofs.DataAdded.{added_stays, size_stays}
+use Rattle.law_emit.proofs.DataImage.{words_stay}
 use Rattle.law_emit.proofs.DataLines.{both_stay}
 use Rattle.law_emit.proofs.Lines.{code_read}
 
@@ -158,7 +159,7 @@ data_stays p out behind end fits =
     let small : (end - FIRST_BYTE) / 4 < 2 ^ 32 = omega (arith, near) in
     let all : Stays (words ++ added ++ size) =
     both_stay (words ++ added) size
-    (both_stay words added fits.words (added_stays out end fits.numbers fits.ends))
+    (both_stay words added (words_stay p (image_of p behind end) fits.said fits.bytes) (added_stays out end fits.numbers fits.ends))
     (size_stays out.statements out.instructions ((end - FIRST_BYTE) / 4) fits.statements fits.instructions small) in
     subst (λ t. StaysData (lines_of t)) (append-nil (words ++ added ++ size)) (all [] nothing_left)
 

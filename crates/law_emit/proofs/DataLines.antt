@@ -7,11 +7,11 @@ use Rattle.std.proofs.lemmas.List.Elements.{All-cons, All-head, All-tail}
 use Rattle.mx_lex.specs.Bytes.{continues_name}
 use Rattle.mx_lex.specs.Lines.{lines_of}
 use Rattle.mx_lex.specs.declared.token.Kind.TheVariants as kinds
-use Rattle.mx_lines.specs.Words.{Word, Name, Number, Colon}
+use Rattle.mx_lines.specs.Words.{Word, Name, Number, Comma, Colon}
 use Rattle.mx_asm.specs.declared.position.Section.TheVariants as section
 use Rattle.mx_asm.specs.Positions.{statement_words, words_or_none, section_after}
 use Rattle.mx_asm.specs.Printable.{is_name}
-use Rattle.mx_asm.proofs.Spelled.{Splits, splits_end, splits_name, splits_mark, splits_blank, splits_decimal, is_colon, words_are}
+use Rattle.mx_asm.proofs.Spelled.{Splits, splits_end, splits_name, splits_mark, splits_blank, splits_decimal, is_comma, is_colon, words_are}
 use Rattle.law_emit.specs.Lines.{LineStays, StaysData, Stays}
 use Rattle.law_emit.specs.Reading.{is_one_line}
 use Rattle.law_emit.proofs.Alone.{alone, from_clean}
@@ -91,6 +91,19 @@ new_row text v = record {
   splits = λ rest words stops s. blanks (codes ".word " ++ (text ++ rest)) (Name (codes ".word") ∷ v.word ∷ words)
       (splits_name (codes ".word") (32 ∷ (text ++ rest)) (v.word ∷ words) refl refl
       (splits_blank (text ++ rest) (v.word ∷ words) (v.splits rest words stops s)));
+}
+
+pub add_row : (line text : List ℕ) → Row line → Value text → Row (line ++ (codes "," ++ text))
+add_row line text r v = record {
+  first = r.first;
+  others = r.others ++ (Comma ∷ v.word ∷ []);
+  plain = r.plain;
+  splits = λ rest words stops s.
+      subst (λ ws. Splits ((line ++ (codes "," ++ text)) ++ rest) (Name (codes ".word") ∷ r.first ∷ ws))
+      (sym (append_assoc r.others (Comma ∷ v.word ∷ []) words))
+      (subst (λ t. Splits t (Name (codes ".word") ∷ r.first ∷ (r.others ++ (Comma ∷ v.word ∷ words)))) (sym (append_assoc line (codes "," ++ text) rest))
+      (r.splits (44 ∷ (text ++ rest)) (Comma ∷ v.word ∷ words) refl
+      (splits_mark 44 kinds.Comma Comma is_comma (text ++ rest) (v.word ∷ words) (v.splits rest words stops s))));
 }
 
 pub row_stays : (line : List ℕ) → Row line → Stays (line ++ codes "\n")

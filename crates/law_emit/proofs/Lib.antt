@@ -1,6 +1,7 @@
 pub mod Alone
 pub mod Data
 pub mod DataAdded
+pub mod DataImage
 pub mod DataLines
 pub mod Labels
 pub mod Lines

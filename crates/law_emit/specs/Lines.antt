@@ -1,5 +1,5 @@
 -- How the text of a translation's code is read.
-use Rattle.std.specs.Prelude.{◌≡◌, ℕ, ◌+◌, ◌^◌, ◌<◌, List, [], ◌∷◌, ◌++◌, All, count_by, Option, Some, None, Result, Ok}
+use Rattle.std.specs.Prelude.{◌≡◌, ℕ, ◌+◌, ◌^◌, ◌<◌, true, List, [], ◌∷◌, ◌++◌, All, count_by, slice_get, Option, Some, None, Result, Ok}
 use Rattle.mx_lex.specs.Lines.{lines_of}
 use Rattle.mx_source.specs.declared.statement.Label.{Label}
 use Rattle.mx_source.specs.declared.statement.Label.TheVariants as label
@@ -11,13 +11,16 @@ use Rattle.mx_lines.specs.Reading.{◌>>=◌}
 use Rattle.mx_asm.specs.Directives.{Effect}
 use Rattle.mx_asm.specs.declared.position.Section.TheVariants as section
 use Rattle.mx_asm.specs.Positions.{define, labels_from, section_after, statement_words, line_words}
+use Rattle.mx_asm.specs.Printable.{is_name}
 use Rattle.mx_asm.specs.Texts.{effects_from, statements_in, values_in, input_in}
+use Rattle.cc_program.specs.declared.item.Object.{Object}
 use Rattle.cc_program.specs.declared.program.Program.{Program}
 use Rattle.cc_emit.specs.declared.line.Line.{Line}
 use Rattle.cc_emit.specs.declared.output.Output.{Output}
+use Rattle.cc_emit.specs.declared.words.Said.{Said}
 use Rattle.cc_emit.specs.Images.{image_of}
 use Rattle.cc_emit.specs.Lines.{is_statement}
-use Rattle.cc_emit.specs.Sources.{words_text}
+use Rattle.cc_emit.specs.Names.{symbol_text}
 use Rattle.law_emit.specs.Reading.{line_statement, line_names, statement_count, code_at}
 
 -- the labels with these names, of which the first definition holds
@@ -64,9 +67,28 @@ StaysData lines = All LineStays lines
 abbrev pub Stays : List ℕ → Type 0
 Stays text = (rest : List ℕ) → StaysData (lines_of rest) → StaysData (lines_of (text ++ rest))
 
--- the words of the program's data stay in their section, and numbers of the translation have 32 bits
+-- the place of a symbol is a name of the language
+abbrev pub PlaceFits : Program → Option ℕ → Type 0
+PlaceFits p None = Unit {0}
+PlaceFits p (Some symbol) = is_name (symbol_text p.symbols.list.items symbol) ≡ true
+
+-- the symbol of a datum is one
+abbrev pub ObjectFits : Program → Option Object → Type 0
+ObjectFits p None = Unit {0}
+ObjectFits p (Some object) = is_name (symbol_text p.symbols.list.items object.symbol) ≡ true
+
+abbrev pub BeginFits : Program → Option ℕ → Type 0
+BeginFits p None = Unit {0}
+BeginFits p (Some number) = ObjectFits p (slice_get p.objects.items number)
+
+-- what is said of a word of data
+abbrev pub SaidFits : Program → Said → Type 0
+SaidFits p said = PlaceFits p said.place × BeginFits p said.begins
+
+-- the bytes of data are bytes, symbols are names of the language, and numbers have 32 bits
 pub record DataFits (p : Program) (out : Output) (behind end : ℕ) : Type 0 where
-  pub words : Stays (words_text p (image_of p behind end))
+  pub bytes : All (λ b. b < 256) (image_of p behind end).bytes
+  pub said : All (SaidFits p) (image_of p behind end).said
   pub numbers : All (λ n. n < 2 ^ 32) out.numbers.keys
   pub ends : All (λ n. n < 2 ^ 32) out.ends.keys
   pub statements : out.statements < 2 ^ 32

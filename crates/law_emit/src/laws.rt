@@ -46,8 +46,7 @@ pub fn routines_fit()
 {}
 
 /// The source of a translation has the statements that its lines are by its labels. Lines with the same text may take the place of its
-/// own, as those of its routines do (`routines_fit`). The data that the translation adds have no `.code`; that the words of the program's
-/// data have none is a premise.
+/// own, as those of its routines do (`routines_fit`). Bytes, numbers and the names of data have to fit (`DataFits`).
 pub fn source_reads_back()
     ensures { (p : Program) (out : Output) (behind end : ℕ) (lines : List Line) → All (LineFits p) lines
         → lines_text p out.lines.items ≡ lines_text p lines → DataFits p out behind end

@@ -1,13 +1,13 @@
 -- What the operations of the machine give, as numbers of the assembly's semantics.
 use Rattle.std.proofs.Common.{◌≡◌, ◌≢◌, ◌≤◌, ◌<◌, ◌^◌, ℕ, ◌+◌, ◌-◌, ◌*◌, ◌/◌, ◌%◌, Bool, true, false, ◌⊎◌, refl, sym, ap, ◌∙◌, arith, subst, ⊎_elim, inl, inr, pow_pos}
-use Rattle.std.specs.Prelude.{if◌then◌else◌, ◌==◌, nat_lt, int_lt, not, max}
-use Rattle.std.specs.Int.{w32, rotate_left, cast_signed, bit_at}
+use Rattle.std.specs.Prelude.{◌==◌, nat_lt, not, max}
+use Rattle.std.specs.Int.{w32, rotate_left, bit_at}
 use Rattle.std.specs.Int.RustNames.{bit_and, bit_or, bit_xor}
 use Rattle.std.proofs.lemmas.Bool.{cases_eq, cases_Bool}
 use Rattle.std.proofs.lemmas.Bool.Decides.{nat_tests}
 use Rattle.std.proofs.lemmas.Int.{ints}
 use Rattle.std.proofs.lemmas.Nat.Bits.{same_from_bits, bit_at_or}
-use Rattle.std.proofs.lemmas.Nat.{and_shr, or_shr, and_comm, or_comm, xor_comm, mod-pow-add, or_shifted, pow-add, div_below, shr_below, field_of, shr_high, mod_low}
+use Rattle.std.proofs.lemmas.Nat.{and_shr, or_shr, and_comm, or_comm, xor_comm, mod-pow-add, or_shifted, shr_below, shr_high, mod_low}
 use Rattle.mx_isa.specs.Arithmetic.{funnel}
 use Rattle.cc_lines.specs.declared.instruction.Shift.{Shift}
 use Rattle.cc_lines.specs.declared.instruction.Shift.TheVariants.{Left, Right, Arithmetic, Rotate}

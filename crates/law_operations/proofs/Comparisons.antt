@@ -1,15 +1,15 @@
 -- Comparisons with a number.
-use Rattle.std.proofs.Common.{◌≡◌, ◌≢◌, ◌≤◌, ◌<◌, ◌^◌, ℕ, ◌+◌, ◌-◌, ◌/◌, ◌%◌, Bool, true, false, cond, List, [], ◌∷◌, Result, Ok, Err, Option, Some, None, ◌⊎◌, refl, sym, ap, ◌∙◌, arith, subst, ⊎_elim}
-use Rattle.std.specs.Prelude.{◌==◌, not, nat_lt}
-use Rattle.std.specs.Int.{w32, cast_signed, cast_unsigned}
+use Rattle.std.proofs.Common.{◌≡◌, ◌≢◌, ◌≤◌, ◌<◌, ◌^◌, ℕ, ◌+◌, ◌-◌, ◌/◌, ◌%◌, Bool, true, false, cond, Ok, Option, Some, None, refl, ap, ◌∙◌, arith, subst}
+use Rattle.std.specs.Prelude.{nat_lt}
+use Rattle.std.specs.Int.{w32, cast_unsigned}
 use Rattle.std.proofs.lemmas.Bool.Decides.{nat_tests}
 use Rattle.std.proofs.lemmas.Int.{of_z-to_z}
 use Rattle.mx_isa.specs.Arithmetic.{word_of, result_of}
-use Rattle.mx_isa.specs.Words.{Words, reg, write}
-use Rattle.mx_isa.specs.Effect.{Core, Bus, act, op_uses_md}
+use Rattle.mx_isa.specs.Words.{reg}
+use Rattle.mx_isa.specs.Effect.{Core, Bus, op_uses_md}
 use Rattle.mx_isa.specs.declared.inst.Op.TheVariants as machine
 use Rattle.cc_lines.specs.declared.instruction.Condition.{Condition}
-use Rattle.cc_lines.specs.declared.instruction.Condition.TheVariants.{Equal, NotEqual, Less, NotLess, Greater, NotGreater, Lower, NotLower, Higher, NotHigher}
+use Rattle.cc_lines.specs.declared.instruction.Condition.TheVariants.{Equal, NotEqual, Less, Lower}
 use Rattle.cc_lines.specs.Conditions.{holds}
 use Rattle.cc_emit.specs.declared.line.Computed.{Computed}
 use Rattle.cc_emit.specs.declared.line.Computed.TheVariants.{Add, Sub, And, Or, Xor, Bic, Rotlb}

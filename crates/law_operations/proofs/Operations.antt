@@ -1,11 +1,11 @@
 -- Operations on two registers, and shifts by a number.
-use Rattle.std.proofs.Common.{◌≡◌, ◌≢◌, ◌≤◌, ◌<◌, ◌^◌, ℕ, ◌+◌, ◌-◌, ◌*◌, ◌/◌, ◌%◌, Bool, true, false, cond, ◌&&◌, ◌||◌, List, [], ◌∷◌, Result, Ok, Err, ◌⊎◌, refl, sym, ap, ◌∙◌, arith, subst, ⊎_elim, inl, inr}
-use Rattle.std.specs.Prelude.{◌==◌, if◌then◌else◌, nat_lt}
-use Rattle.std.specs.Int.RustNames.{bit_and, bit_or, bit_xor}
+use Rattle.std.proofs.Common.{◌≡◌, ◌≤◌, ◌^◌, ℕ, ◌+◌, ◌-◌, ◌%◌, Bool, true, false, cond, ◌&&◌, ◌||◌, [], ◌∷◌, Ok, ◌⊎◌, refl, sym, ap, ◌∙◌, arith, subst, ⊎_elim}
+use Rattle.std.specs.Prelude.{◌==◌}
+use Rattle.std.specs.Int.RustNames.{bit_or, bit_xor}
 use Rattle.std.proofs.lemmas.Bool.Decides.{nat_tests}
 use Rattle.mx_isa.specs.Arithmetic.{word_of, result_of}
-use Rattle.mx_isa.specs.Words.{Words, reg, write}
-use Rattle.mx_isa.specs.Effect.{Core, Bus, act, op_uses_md}
+use Rattle.mx_isa.specs.Words.{Words, reg}
+use Rattle.mx_isa.specs.Effect.{Core, Bus, op_uses_md}
 use Rattle.mx_isa.specs.declared.inst.Op.TheVariants as machine
 use Rattle.cc_lines.specs.declared.instruction.Operation.{Operation}
 use Rattle.cc_lines.specs.declared.instruction.Operation.TheVariants as op
@@ -14,11 +14,9 @@ use Rattle.cc_lines.specs.declared.instruction.Shift.TheVariants.{Left, Right, A
 use Rattle.cc_rules.specs.Views.{is_comparison}
 use Rattle.cc_emit.specs.declared.line.Computed.{Computed}
 use Rattle.cc_emit.specs.declared.line.Computed.TheVariants.{Add, Sub, And, Or, Xor}
-use Rattle.cc_emit.specs.declared.line.Plain.{Plain}
 use Rattle.cc_emit.specs.declared.line.Plain.TheVariants.{Compute, Move, Not, Asr, Sh}
 use Rattle.cc_meaning.specs.declared.value.Value.{Value}
 use Rattle.cc_meaning.specs.declared.value.Value.TheVariants.{Number, Code, Partial}
-use Rattle.cc_meaning.specs.declared.value.Why.{Why}
 use Rattle.cc_meaning.specs.Values.{and_then, number_of}
 use Rattle.cc_meaning.specs.Arithmetic.{computed, operated, shifted, shifted_by}
 use Rattle.cc_operations.specs.Operations as lines

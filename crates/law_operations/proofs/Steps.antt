@@ -1,21 +1,19 @@
 -- What single instructions and several in a row give.
-use Rattle.std.proofs.Common.{◌≡◌, ◌≢◌, ◌≤◌, ◌<◌, ◌^◌, ℕ, ◌+◌, ◌-◌, ◌/◌, ◌%◌, Bool, true, false, cond, List, [], ◌∷◌, Some, None, refl, sym, ap, ◌∙◌, arith, subst, ⊎_elim, pow_pos}
+use Rattle.std.proofs.Common.{◌≡◌, ◌≢◌, ◌≤◌, ◌<◌, ◌^◌, ℕ, ◌+◌, ◌-◌, ◌/◌, ◌%◌, Bool, true, false, cond, Some, None, refl, sym, ap, ◌∙◌, arith, subst, ⊎_elim, pow_pos}
 use Rattle.std.specs.Prelude.{◌*◌, if◌then◌else◌, nat_lt}
 use Rattle.std.proofs.lemmas.Bool.{cases_eq}
 use Rattle.std.proofs.lemmas.Nat.{and_le_l, or_of_32, xor_of_32, shr_le, shr_below, pow_below, pow-add, mod_below, mul-add-lt}
 use Rattle.std.proofs.lemmas.Bool.Decides.{nat_tests}
 use Rattle.mx_isa.specs.declared.inst.Op.{Op}
 use Rattle.mx_isa.specs.declared.inst.Op.TheVariants.{Add, Sub, Subnc, And, Or, Xor, Bic, Not, Rotlb, Mstart, Mstep, Dstep, Asr, Sh}
-use Rattle.mx_isa.specs.declared.inst.Inst.{Inst}
-use Rattle.mx_isa.specs.declared.inst.Inst.TheVariants.{Compute, Addi}
-use Rattle.mx_isa.specs.Arithmetic.{word_of, result_of, md_after, funnel, CountFits}
+use Rattle.mx_isa.specs.declared.inst.Inst.TheVariants.{Compute}
+use Rattle.mx_isa.specs.Arithmetic.{result_of, md_after, funnel, CountFits}
 use Rattle.mx_isa.specs.Words.{Words, reg, write}
 use Rattle.mx_isa.specs.Effect.{Core, Bus, act, op_uses_md, or_kept}
 use Rattle.mx_isa.proofs.Frame.{reg_write, reg_write_same}
 use Rattle.cc_emit.specs.declared.line.Computed.{Computed}
 use Rattle.cc_emit.specs.declared.line.Computed.TheVariants as computed
 use Rattle.law_emit.specs.Statements.{operation}
-use Rattle.cc_meaning.specs.declared.value.Value.{Value}
 use Rattle.cc_meaning.specs.declared.value.Value.TheVariants.{Number}
 use Rattle.law_operations.specs.Runs.{Gives, HoldsWords}
 use Rattle.law_operations.proofs.Bits.{right_is}

@@ -1,5 +1,5 @@
 //! Laws over the definitions.
-ghost use Rattle.std.specs.Prelude.{◌≡◌, ◌≢◌, ◌<◌, ◌^◌, ◌==◌, ℕ, Bool, true, false, not, Option, Some, Ok};
+ghost use Rattle.std.specs.Prelude.{◌≡◌, ◌≢◌, ◌<◌, ◌^◌, ℕ, Bool, false, Some, Ok};
 ghost use Rattle.mx_isa.specs.Words.{reg};
 ghost use Rattle.mx_isa.specs.Effect.{Core, Bus};
 ghost use Rattle.cc_lines.specs.declared.instruction.Operation.{Operation};
