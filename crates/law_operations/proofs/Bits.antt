@@ -80,7 +80,9 @@ left_is x n h k =
 
 -- r26 has bit 31 where r is 0, and where it is not
 pub zero_top : (a : ℕ) → a < 2 ^ 32 → bit_and ((a + (2 ^ 32 - 1)) % 2 ^ 32) (2 ^ 32 - 1 - a) / 2 ^ 31 ≡ truth (a == 0)
-zero_top a h = ⊎_elim (λ e. ap (λ n. bit_and ((n + (2 ^ 32 - 1)) % 2 ^ 32) (2 ^ 32 - 1 - n) / 2 ^ 31) e ∙ sym (ap (λ n. truth (n == 0)) e)) (λ ne. other ne ∙ sym (ne_eqb' ne)) (cases_eq a 0)
+zero_top a h =
+    ⊎_elim (λ e. ap (λ n. bit_and ((n + (2 ^ 32 - 1)) % 2 ^ 32) (2 ^ 32 - 1 - n) / 2 ^ 31) e ∙ sym (ap (λ n. truth (n == 0)) e))
+    (λ ne. other ne ∙ sym (ne_eqb' ne)) (cases_eq a 0)
   where
     ne_eqb' : a ≢ 0 → truth (a == 0) ≡ 0
     ne_eqb' ne = grind (arith, nat_tests)
@@ -92,7 +94,9 @@ zero_top a h = ⊎_elim (λ e. ap (λ n. bit_and ((n + (2 ^ 32 - 1)) % 2 ^ 32) (
         (under_or_not a (2 ^ 31))
 
 pub not_zero_top : (a : ℕ) → a < 2 ^ 32 → bit_or ((0 + (2 ^ 32 - a)) % 2 ^ 32) a / 2 ^ 31 ≡ truth (not (a == 0))
-not_zero_top a h = ⊎_elim (λ e. ap (λ n. bit_or ((0 + (2 ^ 32 - n)) % 2 ^ 32) n / 2 ^ 31) e ∙ sym (ap (λ n. truth (not (n == 0))) e)) (λ ne. other ne ∙ sym (ne_eqb' ne)) (cases_eq a 0)
+not_zero_top a h =
+    ⊎_elim (λ e. ap (λ n. bit_or ((0 + (2 ^ 32 - n)) % 2 ^ 32) n / 2 ^ 31) e ∙ sym (ap (λ n. truth (not (n == 0))) e))
+    (λ ne. other ne ∙ sym (ne_eqb' ne)) (cases_eq a 0)
   where
     ne_eqb' : a ≢ 0 → truth (not (a == 0)) ≡ 1
     ne_eqb' ne = grind (arith, nat_tests)

@@ -121,10 +121,14 @@ operation_values o c rd rs rt a b v bus s h x y e =
 -- shifts
 shift_some : (o : Shift) (bus : Bus) (rd rs n : ℕ) (s : Core) → HoldsWords s.regs → 1 ≤ n → n ≤ 31
     → Gives rd (Number (shifted_by o (reg s.regs rs) n)) s (ran bus (lines.shift o rd rs n ∷ []) s)
-shift_some Left bus rd rs n s h l m = gives_as rd _ _ s _ (λ k. left_is (reg s.regs rs) n m l) (let c : 32 - n ≤ 31 = omega arith in computes bus 0 rd rs (machine.Sh (32 - n)) s h c refl)
+shift_some Left bus rd rs n s h l m =
+    gives_as rd _ _ s _ (λ k. left_is (reg s.regs rs) n m l)
+    (let c : 32 - n ≤ 31 = omega arith in computes bus 0 rd rs (machine.Sh (32 - n)) s h c refl)
 shift_some Right bus rd rs n s h l m = gives_as rd _ _ s _ (λ k. right_is (reg s.regs rs) n) (computes bus rs rd 0 (machine.Sh n) s h m refl)
 shift_some Arithmetic bus rd rs n s h l m = computes bus rs rd 0 (machine.Asr n) s h m refl
-shift_some Rotate bus rd rs n s h l m = gives_as rd _ _ s _ (λ k. rotate_is (reg s.regs rs) n (h rs) m l) (let c : 32 - n ≤ 31 = omega arith in computes bus rs rd rs (machine.Sh (32 - n)) s h c refl)
+shift_some Rotate bus rd rs n s h l m =
+    gives_as rd _ _ s _ (λ k. rotate_is (reg s.regs rs) n (h rs) m l)
+    (let c : 32 - n ≤ 31 = omega arith in computes bus rs rd rs (machine.Sh (32 - n)) s h c refl)
 
 shift_by : (t : Bool) (o : Shift) (bus : Bus) (rd rs n : ℕ) (s : Core) → HoldsWords s.regs → n ≤ 31 → (t ≡ true → n ≡ 0) → (t ≡ false → 1 ≤ n)
     → Gives rd (Number (shifted_by o (reg s.regs rs) n)) s (ran bus (cond t (lines.copied rs rd) (lines.shift o rd rs n ∷ [])) s)

@@ -87,7 +87,9 @@ word_result (Asr n) a b md m f h k =
     signed_small (nat_lt a (2 ^ 31)) (a / 2 ^ n) (2 ^ (32 - n)) g (l (let q : 32 - n ≤ 32 = omega arith in q))
   where
     pow_le : (j : ℕ) → j ≤ 32 → 2 ^ j ≤ 2 ^ 32
-    pow_le j h = ⊎_elim (λ e. let q : 2 ^ j ≡ 2 ^ 32 = ap (λ i. 2 ^ i) e in omega arith) (λ ne. let q = pow_below j 32 (omega arith) in omega arith) (cases_eq j 32)
+    pow_le j h =
+        ⊎_elim (λ e. let q : 2 ^ j ≡ 2 ^ 32 = ap (λ i. 2 ^ i) e in omega arith) (λ ne. let q = pow_below j 32 (omega arith) in omega arith)
+        (cases_eq j 32)
 
     signed_small : (t : Bool) (x p : ℕ) → x < p → p ≤ 2 ^ 32 → (if t then x else x + (2 ^ 32 - p)) < 2 ^ 32
     signed_small true x p h k = omega arith
