@@ -39,11 +39,17 @@ EXCEPT = {
     ("law_emit", "cc_rules"),
     ("law_emit", "cc_program"),
     ("law_emit", "cc_emit"),
+    ("law_emit", "cc_fits"),
     ("law_operations", "cc_lines"),
     ("law_operations", "cc_rules"),
     ("law_operations", "cc_emit"),
     ("law_operations", "cc_meaning"),
+    ("law_operations", "cc_plan"),
     ("law_operations", "cc_operations"),
+    ("law_code", "cc_lines"),
+    ("law_code", "cc_rules"),
+    ("law_code", "cc_program"),
+    ("law_code", "cc_emit"),
 }
 # The top call and the four programs stand on all that they call.
 TOPS = {"mx_command": {"law", "cmd"}, "mx_run": {"cmd"}, "mx_lab": {"cmd", "lab"}, "mx_cc": {"cmd", "cc"}, "mx_serve": {"cmd", "lab", "embed"}}

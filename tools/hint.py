@@ -1,5 +1,6 @@
 #!/usr/bin/env python3
 """Says on standard error why a command of the toolchain did not end well, and what to do: what its program prints is fixed, and short.
+Of a `debug` that ended well it says from which line of C the label is.
 
 usage: tools/hint.py STATUS COMMAND ARGUMENTS ..
 
@@ -15,7 +16,7 @@ import sys
 
 import commands
 
-REFUSED, USAGE, OUT_OF_BUDGET, READ_FAULT, WRITE_FAULT, NO_MEMORY, BAD_IMAGE, BAD_REQUESTS, STUCK = range(1, 10)
+DONE, REFUSED, USAGE, OUT_OF_BUDGET, READ_FAULT, WRITE_FAULT, NO_MEMORY, BAD_IMAGE, BAD_REQUESTS, STUCK = range(10)
 # The name that the commands are called by.
 MX = os.environ.get("MX_NAME", "./mx")
 # The commands that it has: C programs and the workbench are in the repository alone.
@@ -278,6 +279,26 @@ def of_label(source, label):
         yield f"zanderanvil: error: undefined label '{label}' in {shown(source)}{nearest(label, labels)}"
 
 
+def of_line_of_c(source, label):
+    """Yields the line of C that the instruction after a label was made from, where the source was translated from C."""
+    if not is_regular(source):
+        return
+    told, found = None, False
+    with open(source, encoding="latin-1") as lines:
+        for line in lines:
+            begins = re.match(r"([\w.]+):", line)
+            if begins and not re.match(r"L|_\.|\.", line):
+                told = None
+            found = found or bool(begins) and begins[1] == label
+            comment = re.match(r"; (.+:\d+)$", line)
+            if comment:
+                told = comment[1]
+            elif found and line.strip() and not begins:
+                break
+    if found and told:
+        yield f"zanderanvil: '{label}' is at {told}"
+
+
 def of_modules(name, names):
     """Yields what is said of sources that are joined, or share the machine."""
     if not all(map(is_regular, names)):
@@ -396,7 +417,9 @@ def lines_for(status, name, words):
     """Yields the lines that say what is wrong, and what to do."""
     names, options = split(words)
     file = names[0] if names else STANDARD_INPUT
-    if status == REFUSED:
+    if status == DONE and len(names) == 2:
+        yield from of_line_of_c(*names)
+    elif status == REFUSED:
         yield from of_refused(name, names or [file])
     elif status == USAGE:
         yield f"zanderanvil: error: {of_words(name, names, options)}"

@@ -99,6 +99,15 @@ fn too_many(alloc: Global, count: u32, crossing: Option<&[u8]>) -> Result<Vec<u8
     Ok(line)
 }
 
+/// The line for a symbol that a source cannot name.
+fn unnamed(alloc: Global, name: &[u8]) -> Result<Vec<u8>, AllocError> {
+    let mut line = Vec::new(alloc);
+    line.extend_from_slice(b"a source cannot name this symbol: ")?;
+    line.extend_from_slice(name)?;
+    line.push(b'\n')?;
+    Ok(line)
+}
+
 /// The line for what is wrong, or nothing where memory ran out.
 pub(crate) fn message(
     alloc: Global,
@@ -117,6 +126,12 @@ pub(crate) fn message(
                 "{count} data words, and a source has at most 65280, 2048 of them for heap and stack\n"
             )?
         }
+        TranslateError::Line(number) => {
+            format!(in alloc;
+                "line {number} of the translation has a register, a number or a file that a source cannot name\n"
+            )?
+        }
+        TranslateError::Name(name) => return unnamed(alloc, name),
         TranslateError::Memory => return Err(AllocError),
     };
     Ok(text.into_bytes())

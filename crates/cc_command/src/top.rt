@@ -1,9 +1,11 @@
 //! The top call.
-ghost use Rattle.std.specs.Prelude.{◌≡◌, ◌≢◌, IfOk, MatchOption};
+ghost use Rattle.std.specs.Prelude.{◌≡◌, ◌≢◌, ℕ, List, IfOk, MatchOption};
 ghost use Rattle.cmd_answer.specs.declared.status.Status.TheVariants.{Done, Refused};
-ghost use Rattle.cmd_answer.specs.Answer.{prints, writes};
-ghost use Rattle.cmd_answer.specs.Delivery.{HasStatus};
+ghost use Rattle.cmd_answer.specs.Answer.{Answer, prints, writes};
+ghost use Rattle.cmd_answer.specs.Delivery.{HasStatus, Delivered};
 ghost use Rattle.cmd_answer.specs.Replies.{reply_answer, IfAnswered, OnAnswer};
+ghost use Rattle.cc_command.specs.Translated.{HandsOut, IsTranslated};
+ghost use Rattle.cc_fits.specs.Translations.{IsTranslation};
 
 use crate::message::message;
 use crate::words::{Asked, asked_by};
@@ -19,6 +21,7 @@ const USAGE: &str = "usage: mx_cc FILE.s .. [-o OUT.s]";
 fn texts_of<S: Shelf>(alloc: Global, shelf: &mut S, names: &[&str]) -> Result<Vec<Vec<u8>>, Failure>
     ensures told_stays { S.told shelf.new ≡ S.told shelf.old }
     ensures fault { IfAnswered result HasStatus }
+    ensures untranslated { IfAnswered result IsTranslated }
 {
     let mut texts = Vec::new(alloc);
     let mut number = 0u32;
@@ -47,6 +50,7 @@ fn source_reply(alloc: Global, target: Option<&str>, output: Vec<u8>) -> Result<
         (reply_answer r ≡ prints Done output.items)
         (λ name. reply_answer r ≡ writes name.now output.items)) }
     ensures status { OnAnswer result HasStatus }
+    ensures translated { IsTranslation output.items → OnAnswer result IsTranslated }
 {
     match target {
         Some(name) => Ok(Reply::Writes {
@@ -64,6 +68,7 @@ fn source_reply(alloc: Global, target: Option<&str>, output: Vec<u8>) -> Result<
 fn refused_reply(output: Result<Vec<u8>, AllocError>) -> Result<Reply, Failure>
     ensures line { IfOk result (λ r. IfOk output (λ v. reply_answer r ≡ prints Refused v.items)) }
     ensures status { OnAnswer result HasStatus }
+    ensures translated { OnAnswer result IsTranslated }
 {
     Ok(Reply::Prints {
         status: Status::Refused,
@@ -73,7 +78,8 @@ fn refused_reply(output: Result<Vec<u8>, AllocError>) -> Result<Reply, Failure>
 
 /// The reply to the texts of these files.
 fn texts_reply(alloc: Global, asked: &Asked, texts: &[Vec<u8>]) -> Result<Reply, Failure>
-    ensures { OnAnswer result HasStatus }
+    ensures status { OnAnswer result HasStatus }
+    ensures translated { OnAnswer result IsTranslated }
 {
     let slices = slices_of(alloc, texts)?;
     match translate(alloc, &slices) {
@@ -86,6 +92,7 @@ fn texts_reply(alloc: Global, asked: &Asked, texts: &[Vec<u8>]) -> Result<Reply,
 fn asked_reply<S: Shelf>(alloc: Global, shelf: &mut S, asked: &Asked) -> Result<Reply, Failure>
     ensures told_stays { S.told shelf.new ≡ S.told shelf.old }
     ensures status { OnAnswer result HasStatus }
+    ensures translated { OnAnswer result IsTranslated }
 {
     let texts = texts_of(alloc, shelf, &asked.files)?;
     texts_reply(alloc, asked, &texts)
@@ -95,6 +102,7 @@ fn asked_reply<S: Shelf>(alloc: Global, shelf: &mut S, asked: &Asked) -> Result<
 fn reply_to<S: Shelf>(alloc: Global, words: &[String], shelf: &mut S) -> Result<Reply, Memory>
     ensures told_stays { S.told shelf.new ≡ S.told shelf.old }
     ensures status { IfOk result (λ r. HasStatus (reply_answer r)) }
+    ensures translated { IfOk result (λ r. IsTranslated (reply_answer r)) }
 {
     let Ok(asked) = asked_by(alloc, words) else {
         return Err(Memory);
@@ -106,9 +114,12 @@ fn reply_to<S: Shelf>(alloc: Global, words: &[String], shelf: &mut S) -> Result<
 }
 
 /// Translates the files that the words name, those after the program's name, to the file behind `-o` or to standard output,
-/// and answers how it ended. Unless it is done, no file is written.
+/// and answers how it ended. If it is done, what is printed or written is a translation, whose lines and data fit the language; otherwise no
+/// file is written.
 pub fn cc<S: Shelf, W: Sink>(alloc: Global, words: &[String], shelf: &mut S, out: &mut W) -> Status
     ensures unwritten { result ≢ Status.Done → (S.told shelf.new).wrote ≡ (S.told shelf.old).wrote }
+    ensures translated { result ≡ Status.Done → (text : List ℕ) × IsTranslation text × (answer : Answer) × HandsOut text answer
+        × Delivered answer result (S.told shelf.old) (S.told shelf.new) (W.written out.old) (W.written out.new) }
 {
     let Ok(reply) = reply_to(alloc, words, shelf) else {
         return Status::Memory;

@@ -27,6 +27,10 @@ has_mask mask masks = list_any (λ one. bytes_eq (mask_label one) (mask_label ma
 abbrev pub with_mask : Mask → List Mask → List Mask
 with_mask mask masks = cond (has_mask mask masks) masks (masks ++ mask ∷ [])
 
+-- no number is kept for a word of data, no place of a branch is new, and as much is known of r1
+abbrev pub Keeps : Output → Output → Type 0
+Keeps before after = (after.numbers ≡ before.numbers) × (after.skips ≡ before.skips) × (after.first ≡ before.first)
+
 -- nothing was added to it
 pub record IsNew (out : Output) : Type 0 where
   pub lines : out.lines.items ≡ []

@@ -16,6 +16,10 @@ pub enum TranslateError<'a> {
     Statements(u32, Option<&'a [u8]>),
     /// So many data words, and a source has fewer, or leaves no room for the stack.
     Words(u64),
+    /// The line of the code with this number, counted from 1: a source has no such register or number, or no such name of a file.
+    Line(usize),
+    /// The name of a symbol, for which a source has no name.
+    Name(&'a [u8]),
     Memory,
 }
 

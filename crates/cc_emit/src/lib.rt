@@ -19,6 +19,7 @@ pub use line::{
     shift_line,
 };
 pub use output::Output;
+pub use print::{LONGEST_FILE, file_named};
 pub use routines::put_routines;
 pub use source::source_text;
 pub use words::{Said, Writing, end_of};

@@ -78,6 +78,8 @@ impl Output {
     pub fn keep_number(&mut self, number: u32) -> Result<(), AllocError>
         ensures kept { OnOk result (self.new.numbers.keys ≡ insert_key nat_eq self.old.numbers.keys number) }
         ensures lines { self.new.lines ≡ self.old.lines }
+        ensures rest { (self.new.statements ≡ self.old.statements) × (self.new.routines ≡ self.old.routines) }
+        ensures places { (self.new.skips ≡ self.old.skips) × (self.new.first ≡ self.old.first) }
     {
         self.numbers.insert(number)?;
         Ok(())
@@ -97,6 +99,7 @@ impl Output {
         ensures lines { OnOk result (self.new.lines.items ≡ self.old.lines.items ++ lines.now) }
         ensures statements { self.new.statements ≡ min (self.old.statements + Needs.statements_in lines.now) (2 ^ 32 - 1) }
         ensures routines { self.new.routines ≡ self.old.routines }
+        ensures kept { Needs.Keeps self.old self.new }
     {
         self.statements = self.statements.saturating_add(statements_in(lines));
         self.lines.extend_from_slice(lines)
@@ -107,6 +110,7 @@ impl Output {
         ensures lines { OnOk result (self.new.lines.items ≡ self.old.lines.items ++ line ∷ []) }
         ensures statements { self.new.statements ≡ min (self.old.statements + Needs.statements_in (line ∷ [])) (2 ^ 32 - 1) }
         ensures routines { self.new.routines ≡ self.old.routines }
+        ensures kept { Needs.Keeps self.old self.new }
     {
         self.push_all(&[line])
     }
@@ -116,6 +120,7 @@ impl Output {
         ensures lines { OnOk result (self.new.lines.items ≡ self.old.lines.items ++ Line.Plain plain ∷ []) }
         ensures statements { self.new.statements ≡ min (self.old.statements + 1) (2 ^ 32 - 1) }
         ensures routines { self.new.routines ≡ self.old.routines }
+        ensures kept { Needs.Keeps self.old self.new }
     {
         self.push(Line::Plain(plain))
     }
@@ -125,6 +130,7 @@ impl Output {
         ensures lines { OnOk result (self.new.lines.items ≡ self.old.lines.items ++ Line.Plain (Plain.Compute op a b rd) ∷ []) }
         ensures statements { self.new.statements ≡ min (self.old.statements + 1) (2 ^ 32 - 1) }
         ensures routines { self.new.routines ≡ self.old.routines }
+        ensures kept { Needs.Keeps self.old self.new }
     {
         self.push(compute_line(op, a, b, rd))
     }
@@ -134,6 +140,7 @@ impl Output {
         ensures lines { OnOk result (self.new.lines.items ≡ self.old.lines.items ++ Line.Plain (Plain.Sh a b count rd) ∷ []) }
         ensures statements { self.new.statements ≡ min (self.old.statements + 1) (2 ^ 32 - 1) }
         ensures routines { self.new.routines ≡ self.old.routines }
+        ensures kept { Needs.Keeps self.old self.new }
     {
         self.push(shift_line(a, b, count, rd))
     }
@@ -143,6 +150,7 @@ impl Output {
         ensures lines { OnOk result (self.new.lines.items ≡ self.old.lines.items ++ Line.Transfer transfer ∷ []) }
         ensures statements { self.new.statements ≡ min (self.old.statements + 1) (2 ^ 32 - 1) }
         ensures routines { self.new.routines ≡ self.old.routines }
+        ensures kept { Needs.Keeps self.old self.new }
     {
         self.push(Line::Transfer(transfer))
     }
@@ -151,6 +159,8 @@ impl Output {
     pub fn skip(&mut self) -> u32
         ensures number { result ≡ min (self.old.skips + 1) (2 ^ 32 - 1) }
         ensures kept { self.new.skips ≡ result }
+        ensures lines { (self.new.lines ≡ self.old.lines) × (self.new.statements ≡ self.old.statements) }
+        ensures rest { (self.new.routines ≡ self.old.routines) × (self.new.numbers ≡ self.old.numbers) × (self.new.first ≡ self.old.first) }
     {
         self.skips = self.skips.saturating_add(1);
         self.skips

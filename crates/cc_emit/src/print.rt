@@ -12,7 +12,7 @@ use cc_rules::file_key;
 use std::alloc::{AllocError, Global};
 
 /// The longest name of a source file that is written.
-const LONGEST_NAME: usize = 160;
+pub const LONGEST_FILE: usize = 160;
 
 /// Adds an instruction.
 fn put_plain(text: &mut Text, symbols: &Symbols, plain: &Plain) -> Result<(), AllocError>
@@ -117,7 +117,7 @@ fn put_transfer(text: &mut Text, symbols: &Symbols, transfer: &Transfer) -> Resu
 }
 
 /// The name of the source file with a number in a text, in quotes.
-fn file_named<'a>(program: &Program<'a>, unit: u32, file: u32) -> Option<&'a [u8]>
+pub fn file_named<'a>(program: &Program<'a>, unit: u32, file: u32) -> Option<&'a [u8]>
     ensures { result ≡ file_name program.now unit file }
 {
     program.files.get(&file_key(unit, file)).copied()
@@ -140,7 +140,7 @@ fn put_told(text: &mut Text, name: Option<&[u8]>, line: u32) -> Result<(), Alloc
     ensures { OnOk result (text.new ≡ text.old ++ told_text name.entry line) }
 {
     match name {
-        Some(name) if name.len() <= LONGEST_NAME => {
+        Some(name) if name.len() <= LONGEST_FILE => {
             text.put(b"; ")?;
             put_unquoted(text, name)?;
             text.put(b":")?;

@@ -1,2 +1,5 @@
 pub mod Comparisons
+pub mod Computing
+pub mod Counts
+pub mod Numbers
 pub mod Operations

@@ -1,5 +1,6 @@
 //! Comparisons of a register with a number, which need no branch.
 ghost use Rattle.std.specs.Prelude.{◌≡◌, ◌++◌, ◌+◌, ◌-◌, ◌^◌, min, OnOk};
+ghost use Rattle.cc_emit.specs.Needs.{Keeps};
 ghost use Rattle.cc_operations.specs.Comparisons;
 ghost use Rattle.cc_operations.specs.Operations.{lines};
 
@@ -13,6 +14,7 @@ pub fn set_if_negative(out: &mut Output, a: u8, rd: u8) -> Result<(), AllocError
     ensures lines { OnOk result (out.new.lines.items ≡ out.old.lines.items ++ lines (Comparisons.negative a rd)) }
     ensures statements { OnOk result (out.new.statements ≡ min (out.old.statements + 1) (2 ^ 32 - 1)) }
     ensures routines { out.new.routines ≡ out.old.routines }
+    ensures kept { Keeps out.old out.new }
 {
     out.shift(a, 0, 31, rd)
 }
@@ -22,6 +24,7 @@ pub fn set_if_zero(out: &mut Output, a: u8, rd: u8) -> Result<(), AllocError>
     ensures lines { OnOk result (out.new.lines.items ≡ out.old.lines.items ++ lines (Comparisons.zero a rd)) }
     ensures statements { OnOk result (out.new.statements ≡ min (out.old.statements + 3) (2 ^ 32 - 1)) }
     ensures routines { out.new.routines ≡ out.old.routines }
+    ensures kept { Keeps out.old out.new }
 {
     out.push_all(&[
         Line::Plain(Plain::Addi {
@@ -39,6 +42,7 @@ pub fn set_if_not_zero(out: &mut Output, a: u8, rd: u8) -> Result<(), AllocError
     ensures lines { OnOk result (out.new.lines.items ≡ out.old.lines.items ++ lines (Comparisons.not_zero a rd)) }
     ensures statements { OnOk result (out.new.statements ≡ min (out.old.statements + 3) (2 ^ 32 - 1)) }
     ensures routines { out.new.routines ≡ out.old.routines }
+    ensures kept { Keeps out.old out.new }
 {
     out.push_all(&[
         compute_line(Computed::Sub, 0, a, SECOND),
@@ -58,6 +62,7 @@ pub fn set_if_below(
     ensures lines { OnOk result (out.new.lines.items ≡ out.old.lines.items ++ lines (Comparisons.below signs a value rd)) }
     ensures statements { OnOk result (out.new.statements ≡ min (out.old.statements + 3) (2 ^ 32 - 1)) }
     ensures routines { out.new.routines ≡ out.old.routines }
+    ensures kept { Keeps out.old out.new }
 {
     out.push_all(&[
         Line::Plain(Plain::Addi {

@@ -1,5 +1,6 @@
 //! Copies, operations on two registers, and shifts by a number.
 ghost use Rattle.std.specs.Prelude.{◌≡◌, ◌++◌, ◌+◌, ◌-◌, ◌^◌, min, OnOk};
+ghost use Rattle.cc_emit.specs.Needs.{Keeps};
 ghost use Rattle.cc_operations.specs.Operations;
 
 use cc_emit::{Computed, Output, Plain};
@@ -11,6 +12,7 @@ pub fn copy(out: &mut Output, rs: u8, rd: u8) -> Result<(), AllocError>
     ensures lines { OnOk result (out.new.lines.items ≡ out.old.lines.items ++ Operations.lines (Operations.copied rs rd)) }
     ensures statements { OnOk result (out.new.statements ≡ Operations.counted out.old.statements (Operations.copied rs rd)) }
     ensures routines { out.new.routines ≡ out.old.routines }
+    ensures kept { Keeps out.old out.new }
 {
     if rs == rd || rd == 0 {
         return Ok(());
@@ -23,6 +25,7 @@ fn complement(out: &mut Output, rs: u8, rd: u8) -> Result<(), AllocError>
     ensures lines { OnOk result (out.new.lines.items ≡ out.old.lines.items ++ Operations.lines (Operations.complemented rs rd)) }
     ensures statements { OnOk result (out.new.statements ≡ min (out.old.statements + 1) (2 ^ 32 - 1)) }
     ensures routines { out.new.routines ≡ out.old.routines }
+    ensures kept { Keeps out.old out.new }
 {
     out.plain(Plain::Not { rs, rd })
 }
@@ -56,6 +59,7 @@ fn nor(out: &mut Output, rd: u8, rs: u8, rt: u8) -> Result<(), AllocError>
     ensures lines { OnOk result (out.new.lines.items ≡ out.old.lines.items ++ Operations.lines (Operations.nor rd rs rt)) }
     ensures statements { OnOk result (out.new.statements ≡ Operations.counted out.old.statements (Operations.nor rd rs rt)) }
     ensures routines { out.new.routines ≡ out.old.routines }
+    ensures kept { Keeps out.old out.new }
 {
     if rt == 0 {
         return complement(out, rs, rd);
@@ -78,6 +82,7 @@ pub fn compute_registers(
     ensures lines { OnOk result (out.new.lines.items ≡ out.old.lines.items ++ Operations.lines (Operations.operated op rd rs rt)) }
     ensures statements { OnOk result (out.new.statements ≡ Operations.counted out.old.statements (Operations.operated op rd rs rt)) }
     ensures routines { out.new.routines ≡ out.old.routines }
+    ensures kept { Keeps out.old out.new }
 {
     if is_copy(op, rt) {
         return copy(out, rs, rd);
@@ -93,6 +98,7 @@ pub fn shift_by(out: &mut Output, op: Shift, rd: u8, rs: u8, count: u32) -> Resu
     ensures lines { OnOk result (out.new.lines.items ≡ out.old.lines.items ++ Operations.lines (Operations.shifted op rd rs count)) }
     ensures statements { OnOk result (out.new.statements ≡ Operations.counted out.old.statements (Operations.shifted op rd rs count)) }
     ensures routines { out.new.routines ≡ out.old.routines }
+    ensures kept { Keeps out.old out.new }
 {
     let count = (count % 32) as u8;
     if count == 0 {

@@ -1,7 +1,7 @@
 //! Comparisons that are made by the branch that reads them.
 ghost use Rattle.std.specs.Prelude.{◌≡◌, ℕ};
 ghost use Rattle.cc_lines.specs.Conditions.{holds};
-ghost use Rattle.cc_plan.specs.Comparisons.{value_of, asked_by};
+ghost use Rattle.cc_plan.specs.Comparisons.{value_of, asked_by, tested};
 
 use crate::effects::{of, reads, writes};
 use crate::plan::{Comparison, Plan, Step};
@@ -15,7 +15,8 @@ const MOST_BETWEEN: usize = 32;
 /// The condition that `slt` or `sltu` and its like test. Some comparisons without signs are comparisons with register 0.
 #[tactic(auto, using(crate::proofs::Zeros::below_one, crate::proofs::Zeros::above_zero))]
 pub fn tested_by(op: Operation, rs: Register, second: Source) -> Comparison
-    ensures { (words : ℕ → ℕ) → words 0 ≡ 0 → holds result.condition (words result.rs.0) (value_of words result.second)
+    ensures made { result ≡ tested op rs second }
+    ensures truth { (words : ℕ → ℕ) → words 0 ≡ 0 → holds result.condition (words result.rs.0) (value_of words result.second)
         ≡ holds (asked_by op) (words rs.0) (value_of words second) }
 {
     match (op, second) {

@@ -1,10 +1,8 @@
 //! Loads and stores.
 
-use cc_emit::{
-    Computed, Line, Mask, Output, Plain, Transfer, Word, compute_line, is_short, shift_line,
-};
+use cc_emit::{Computed, Line, Mask, Output, Plain, Transfer, Word, compute_line, shift_line};
 use cc_lines::{Register, Width};
-use cc_operations::{FIRST, SECOND, THIRD};
+use cc_operations::{FIRST, SECOND, THIRD, add_constant};
 use cc_plan::Place;
 use cc_program::Function;
 use std::alloc::AllocError;
@@ -26,48 +24,6 @@ enum Part {
     Byte(u8),
     /// The low bits of a register tell it.
     By(u8),
-}
-
-/// Puts a number into a register. The first one may hold it already, from an earlier statement.
-pub(crate) fn constant(out: &mut Output, value: u32, rd: u8) -> Result<(), AllocError> {
-    if rd == FIRST {
-        if out.first == Some(value) {
-            return Ok(());
-        }
-        out.first = Some(value);
-    }
-    load_constant(out, value, rd)
-}
-
-/// Loads a number into a register.
-fn load_constant(out: &mut Output, value: u32, rd: u8) -> Result<(), AllocError> {
-    if !is_short(value.cast_signed()) {
-        out.keep_number(value)?;
-    }
-    out.push(Line::Constant { value, rd })
-}
-
-/// Adds a number to a register, which is not register 0 where the number is long.
-fn add_number(out: &mut Output, rs: u8, value: u32, rd: u8) -> Result<(), AllocError> {
-    let number = value.cast_signed();
-    if is_short(number) {
-        return out.plain(Plain::Addi { rs, number, rd });
-    }
-    let with = if rd == rs || rd == 0 { FIRST } else { rd };
-    constant(out, value, with)?;
-    out.compute(Computed::Add, rs, with, rd)
-}
-
-/// Adds a number to a register.
-pub(crate) fn add_constant(out: &mut Output, rs: u8, value: u32, rd: u8) -> Result<(), AllocError> {
-    if rs == 0 {
-        return constant(out, value, rd);
-    }
-    add_number(out, rs, value, rd)?;
-    if rd == FIRST {
-        out.first = None;
-    }
-    Ok(())
 }
 
 /// Computes the address of a far datum, and a quarter of it.

@@ -1,9 +1,6 @@
 //! The translation of one statement, by itself and its plan.
 
-use crate::memory::{
-    add_constant, call_at, constant, is_misaligned, is_null, jump_at, load_statement,
-    store_statement,
-};
+use crate::memory::{call_at, is_misaligned, is_null, jump_at, load_statement, store_statement};
 use cc_emit::{
     Computed, Line, Output, Plain, Routine, Target, Transfer, Word, compute_line, shift_line,
 };
@@ -11,26 +8,11 @@ use cc_lines::{
     Condition, Instruction, LinkFrom, Long, Operation, Refusal, Register, Shift, Source, Special,
     Width,
 };
-use cc_operations::{
-    FIRST, SECOND, compute_registers, copy, set_if_below, set_if_negative, set_if_not_zero,
-    set_if_zero, shift_by, signs_of,
-};
-use cc_plan::{Comparison, FRAME_WORDS, HI, Place, Planned, STACK_WORDS, Step, bit, tested_by};
+use cc_operations::{SECOND, add_constant, compute, constant, copy, operand, shift_by};
+use cc_plan::{Comparison, FRAME_WORDS, HI, Place, Planned, STACK_WORDS, Step, bit};
 use cc_program::{Function, Meaning, Program};
 use cc_rules::{quarter, special_register};
 use std::alloc::AllocError;
-
-/// The register of a second operand; a number is put into the first register for the time being.
-fn operand(out: &mut Output, second: Source) -> Result<u8, AllocError> {
-    match second {
-        Source::Register(r) => Ok(r.0),
-        Source::Number(0) => Ok(0),
-        Source::Number(value) => {
-            constant(out, value, FIRST)?;
-            Ok(FIRST)
-        }
-    }
-}
 
 /// A branch to a place.
 fn branch_to(out: &mut Output, found: Comparison, to: Target) -> Result<(), AllocError> {
@@ -76,96 +58,6 @@ fn branch_by_bits(
         second: Source::Number(0),
     };
     branch(out, found, symbol)
-}
-
-/// 1 where a condition holds of two registers, else 0, by a branch.
-fn set_over(
-    out: &mut Output,
-    condition: Condition,
-    a: u8,
-    b: u8,
-    rd: u8,
-) -> Result<(), AllocError> {
-    let to = Target::Skip(out.skip());
-    out.push_all(&[
-        Line::Constant { value: 1, rd },
-        Line::Transfer(Transfer::Branch {
-            condition,
-            a,
-            b,
-            to,
-        }),
-        Line::Plain(Plain::Move { rs: 0, rd }),
-        Line::Mark(to),
-    ])
-}
-
-/// 1 where a condition holds, else 0: without a branch where a number decides it.
-fn set_against(out: &mut Output, rd: u8, found: Comparison) -> Result<(), AllocError> {
-    if let Source::Number(value) = found.second {
-        if let Some(signs) = signs_of(found.condition, value) {
-            return set_if_below(out, signs, found.rs.0, value, rd);
-        }
-    }
-    set_by_branch(out, rd, found)
-}
-
-/// 1 where a condition holds, else 0, by a branch.
-fn set_by_branch(out: &mut Output, rd: u8, found: Comparison) -> Result<(), AllocError> {
-    let a = found.rs.0;
-    let b = operand(out, found.second)?;
-    let into = if rd == a || rd == b { SECOND } else { rd };
-    set_over(out, found.condition, a, b, into)?;
-    copy(out, into, rd)
-}
-
-/// Whether a second operand is 0.
-fn is_zero(second: Source) -> bool {
-    matches!(second, Source::Register(Register(0)) | Source::Number(0))
-}
-
-/// 1 where a condition holds, else 0. Some comparisons with 0 need no branch.
-fn set(out: &mut Output, rd: u8, found: Comparison) -> Result<(), AllocError> {
-    let a = found.rs.0;
-    match found.condition {
-        Condition::Less if is_zero(found.second) => set_if_negative(out, a, rd),
-        Condition::Equal if is_zero(found.second) => set_if_zero(out, a, rd),
-        Condition::NotEqual if is_zero(found.second) => set_if_not_zero(out, a, rd),
-        _ => set_against(out, rd, found),
-    }
-}
-
-/// What is computed of a register and a second operand.
-fn compute_operands(
-    out: &mut Output,
-    op: Operation,
-    rd: u8,
-    rs: u8,
-    second: Source,
-) -> Result<(), AllocError> {
-    let rt = operand(out, second)?;
-    compute_registers(out, op, rd, rs, rt)
-}
-
-/// What is computed of two words.
-fn compute(
-    out: &mut Output,
-    op: Operation,
-    rd: u8,
-    rs: Register,
-    second: Source,
-) -> Result<(), AllocError> {
-    match (op, second) {
-        (Operation::Less | Operation::Lower, _) => set(out, rd, tested_by(op, rs, second)),
-        (Operation::Add, Source::Number(value)) => add_constant(out, rs.0, value, rd),
-        (Operation::Sub, Source::Number(value)) => {
-            add_constant(out, rs.0, value.wrapping_neg(), rd)
-        }
-        (Operation::Or | Operation::Xor, Source::Number(value)) if rs == Register::ZERO => {
-            constant(out, value, rd)
-        }
-        _ => compute_operands(out, op, rd, rs.0, second),
-    }
 }
 
 /// The multiple of 4 by which an operation moves the stack pointer, if it does so.

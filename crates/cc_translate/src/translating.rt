@@ -1,13 +1,14 @@
 //! The translation of texts.
-ghost use Rattle.std.specs.Prelude.{◌≡◌, ◌≤◌, ℕ, IfErr, IfOk, OnOk};
+ghost use Rattle.std.specs.Prelude.{◌≤◌, IfErr, IfOk, OnOk};
 ghost use Rattle.cc_emit.specs.Errors.{IsTooMany};
-ghost use Rattle.cc_emit.specs.Sources;
+ghost use Rattle.cc_fits.specs.Translations.{HasLines, IsPrinted, IsTranslation};
 
 use crate::functions::translate_function;
 use cc_emit::{
     Line, MOST_STATEMENTS, Output, Plain, Target, Transfer, TranslateError, Word, end_of,
     limit_statements, limit_words, put_routines, source_text,
 };
+use cc_fits::{check_data, check_lines};
 use cc_lines::Register;
 use cc_plan::STACK_WORDS;
 use cc_program::{Fault, Program};
@@ -36,8 +37,8 @@ fn put_start(out: &mut Output, main: u32) -> Result<(), AllocError> {
     ])
 }
 
-/// Adds the functions that are kept, and the routines that they call.
-fn put_code(
+/// Adds the functions that are kept.
+fn put_functions(
     alloc: Global,
     out: &mut Output,
     program: &Program,
@@ -52,10 +53,36 @@ fn put_code(
             }
         }
     }
-    put_routines(out)
+    Ok(())
 }
 
-/// The text of the source, unless there are more data than the memory has room for.
+/// Adds the routines that are called to lines, unless one of these does not fit.
+fn put_rest<'a>(out: &mut Output, program: &Program<'a>) -> Result<(), TranslateError<'a>>
+    ensures refused { IfErr result (λ e. IsTooMany e) }
+    ensures lines { OnOk result (HasLines program.now out.new) }
+{
+    check_lines(program, &out.lines)?;
+    put_routines(out)?;
+    Ok(())
+}
+
+/// The text of the source, whose data end before these bytes, if they fit.
+fn checked_text<'a>(
+    alloc: Global,
+    out: &Output,
+    program: &Program<'a>,
+    behind: u32,
+    end: u32,
+) -> Result<Vec<u8>, TranslateError<'a>>
+    ensures refused { IfErr result (λ e. IsTooMany e) }
+    ensures source { IfOk result (λ text. IsPrinted program.now out.now behind text.items) }
+{
+    check_data(program, out)?;
+    let text = source_text(alloc, program, out, behind, end)?;
+    Ok(text)
+}
+
+/// The text of the source, unless there are more data than the memory has room for, or some do not fit.
 fn text_of<'a>(
     alloc: Global,
     out: &Output,
@@ -63,13 +90,12 @@ fn text_of<'a>(
     behind: u64,
 ) -> Result<Vec<u8>, TranslateError<'a>>
     ensures refused { IfErr result (λ e. IsTooMany e) }
-    ensures source { IfOk result (λ text. (end : ℕ) × (text.items ≡ Sources.source_text program.now out.now behind end)) }
+    ensures source { IfOk result (λ text. IsPrinted program.now out.now behind text.items) }
 {
     let end = end_of(out, behind);
     let words = end.saturating_sub(FIRST_BYTE) / 4;
     limit_words(words)?;
-    let text = source_text(alloc, program, out, behind as u32, end as u32)?;
-    Ok(text)
+    checked_text(alloc, out, program, behind as u32, end as u32)
 }
 
 /// The name of the function with which there were too many statements.
@@ -77,7 +103,7 @@ fn crossing_name<'a>(out: &Output, program: &Program<'a>) -> Option<&'a [u8]> {
     Some(program.symbols.at(out.crossing?)?.name)
 }
 
-/// Adds code, unless a statement is not translated or there are too many.
+/// Adds code, unless a statement is not translated, a line does not fit, or there are too many.
 fn put_all<'a>(
     alloc: Global,
     out: &mut Output,
@@ -86,8 +112,9 @@ fn put_all<'a>(
 ) -> Result<(), TranslateError<'a>>
     ensures refused { IfErr result (λ e. IsTooMany e) }
     ensures few { OnOk result (out.new.statements ≤ MOST_STATEMENTS) }
+    ensures lines { OnOk result (HasLines program.now out.new) }
 {
-    put_code(alloc, out, program, main)?;
+    put_functions(alloc, out, program, main)?;
     if let Some((unit, line, refusal)) = out.fault {
         return Err(TranslateError::Fault(Fault {
             unit,
@@ -97,6 +124,7 @@ fn put_all<'a>(
             symbol: None,
         }));
     }
+    put_rest(out, program)?;
     limit_statements(out.statements, crossing_name(out, program))
 }
 
@@ -108,6 +136,7 @@ pub fn lines_of<'a>(
 ) -> Result<Output, TranslateError<'a>>
     ensures refused { IfErr result (λ e. IsTooMany e) }
     ensures few { IfOk result (λ out. out.statements ≤ MOST_STATEMENTS) }
+    ensures lines { IfOk result (λ out. HasLines program.now out) }
 {
     let mut out = Output::new(alloc);
     put_all(alloc, &mut out, program, main)?;
@@ -121,10 +150,12 @@ fn source_of<'a>(
     main: u32,
     behind: u64,
 ) -> Result<Vec<u8>, TranslateError<'a>>
-    ensures { IfErr result (λ e. IsTooMany e) }
+    ensures refused { IfErr result (λ e. IsTooMany e) }
+    ensures source { IfOk result (λ text. IsTranslation text.items) }
 {
     let out = lines_of(alloc, program, main)?;
-    text_of(alloc, &out, program, behind)
+    let text = text_of(alloc, &out, program, behind)?;
+    Ok(text)
 }
 
 /// The source that texts become together, which are read into an empty program.
@@ -133,7 +164,8 @@ fn source_from<'a>(
     reader: &mut Reader<'a>,
     texts: &[&'a [u8]],
 ) -> Result<Vec<u8>, TranslateError<'a>>
-    ensures { IfErr result (λ e. IsTooMany e) }
+    ensures refused { IfErr result (λ e. IsTooMany e) }
+    ensures source { IfOk result (λ text. IsTranslation text.items) }
 {
     let (main, behind) = reader.read_all(texts)?;
     source_of(alloc, &reader.program, main, behind)
@@ -141,7 +173,8 @@ fn source_from<'a>(
 
 /// The source that texts in a compiler's assembly for MIPS-I become together.
 pub fn translate<'a>(alloc: Global, texts: &[&'a [u8]]) -> Result<Vec<u8>, TranslateError<'a>>
-    ensures { IfErr result (λ e. IsTooMany e) }
+    ensures refused { IfErr result (λ e. IsTooMany e) }
+    ensures source { IfOk result (λ text. IsTranslation text.items) }
 {
     let mut reader = Reader::new(alloc)?;
     source_from(alloc, &mut reader, texts)

@@ -1,4 +1,4 @@
-mod Machine
+pub mod Machine
 mod Fetches
 mod Ones
 mod Visits

@@ -1,11 +1,18 @@
 //! A run with many caches.
-ghost use Rattle.std.specs.Prelude.{◌≡◌};
+ghost use Rattle.std.specs.Prelude.{◌≡◌, ◌≤◌, ◌<◌, ◌+◌, ◌^◌, ◌∷◌, ◌++◌, [], ℕ, List, Bool, Some, IfOk, OnOk, length, map, slice_get, false};
+ghost use Rattle.mx_turn.specs.Program.{Program, state_after, answer_after};
+ghost use Rattle.mx_turn.specs.Run.{run_of};
+ghost use Rattle.lab_terms.specs.declared.geometry.Geometry.{Geometry};
+ghost use Rattle.lab_cache.specs.declared.all.Counted.{Counted};
+ghost use Rattle.lab_cache.specs.All.{AreCaches, AllHold};
+ghost use Rattle.lab_caches.specs.Fetched.{fetches_of, address_in};
+ghost use Rattle.lab_caches.specs.Rows.{row_over, row_for, IsStudy};
 
 use lab_cache::{AllCaches, Counted};
 use lab_terms::Geometry;
 use mx_board::Requests;
 use mx_io::Memory;
-use mx_turn::{Counts, Machine, Stage};
+use mx_turn::{Counts, Cycled, Machine, Stage};
 use std::alloc::{AllocError, Global};
 
 /// What a cache makes of a run.
@@ -25,23 +32,44 @@ pub struct Study {
     pub rows: Vec<CacheRow>,
 }
 
-// Has each cache fetch what the last turn of a machine fetched.
-fn fetch_in(all: &mut AllCaches, fetch: Stage) {
-    if let Stage::Live(address) | Stage::Squashed(address) = fetch {
+// Has each cache fetch the address in a stage, if it holds a fetch.
+fn fetch_in(all: &mut AllCaches, stage: Stage)
+    ensures { (gs : List Geometry) (past : List ℕ) → AllHold all.old.groups.items gs past
+        → AllHold all.new.groups.items gs (address_in stage ++ past) }
+{
+    if let Stage::Live(address) | Stage::Squashed(address) = stage {
         all.fetch(address);
     }
 }
 
-// Runs a machine until it halts or the budget is spent; answers whether it halted.
+// One cycle of a machine. Each cache fetches what a turn fetches that ends with it.
+fn cycle_with<M: Machine>(machine: &mut M, request: bool, all: &mut AllCaches) -> Cycled
+    requires { M.cycles machine.old < 2 ^ 63 }
+    ensures answer { (p : Program) (h : List Bool) → M.stands machine.old p h → result ≡ answer_after p h request }
+    ensures next { (p : Program) (h : List Bool) → M.stands machine.old p h → M.stands machine.new p (h ++ request ∷ []) }
+    ensures cycles { M.cycles machine.new ≤ M.cycles machine.old + 1 }
+    ensures fetched { (p : Program) (h : List Bool) (gs : List Geometry) → M.stands machine.old p h → (state_after p h).halted ≡ false
+        → AllHold all.old.groups.items gs (state_after p h).past
+        → AllHold all.new.groups.items gs (state_after p (h ++ request ∷ [])).past }
+{
+    let cycled = machine.cycle(request);
+    if !cycled.stalled {
+        fetch_in(all, machine.latches().fetch);
+    }
+    cycled
+}
+
+// Runs a machine until it halts or the budget is spent, and has each cache fetch what it fetches; answers whether it halted.
 fn run<M: Machine>(machine: &mut M, requests: &Requests, budget: u32, all: &mut AllCaches) -> bool
     requires { M.cycles machine.old ≡ 0 }
+    ensures halted { (p : Program) → M.stands machine.old p [] → result ≡ (run_of p requests.now budget).halted }
+    ensures stands { (p : Program) → M.stands machine.old p []
+        → (h : List Bool) × M.stands machine.new p h × (state_after p h ≡ (run_of p requests.now budget).last) }
+    ensures fetched { (p : Program) (gs : List Geometry) → M.stands machine.old p [] → AllHold all.old.groups.items gs []
+        → AllHold all.new.groups.items gs (fetches_of p requests.now budget) }
 {
     for cycle in 0..budget {
-        let cycled = machine.cycle(requests.wants(cycle));
-        if !cycled.stalled {
-            fetch_in(all, machine.latches().fetch);
-        }
-        if cycled.halted {
+        if cycle_with(machine, requests.wants(cycle), all).halted {
             return true;
         }
     }
@@ -49,7 +77,10 @@ fn run<M: Machine>(machine: &mut M, requests: &Requests, budget: u32, all: &mut 
 }
 
 // What a cache makes of a run with so many fetches.
-fn row_of(counted: &Counted, fetches: u64) -> CacheRow {
+fn row_of(counted: Counted, fetches: u64) -> CacheRow
+    ensures row { result ≡ row_for fetches counted }
+    ensures small { counted.geometry.penalty < 2 ^ 32 }
+{
     CacheRow {
         geometry: counted.geometry,
         misses: counted.misses,
@@ -58,22 +89,25 @@ fn row_of(counted: &Counted, fetches: u64) -> CacheRow {
 }
 
 // What each cache makes of a run with so many fetches.
-fn rows_of(alloc: Global, all: &[Counted], fetches: u64) -> Result<Vec<CacheRow>, AllocError> {
+fn rows_of(alloc: Global, all: &[Counted], fetches: u64) -> Result<Vec<CacheRow>, AllocError>
+    ensures rows { IfOk result (λ rows. rows.items ≡ map (row_for fetches) all.now) }
+    ensures small { OnOk result ((k : ℕ) (c : Counted) → slice_get all.now k ≡ Some c → c.geometry.penalty < 2 ^ 32) }
+{
     let mut rows = Vec::new(alloc);
     for counted in all {
-        rows.push(row_of(counted, fetches))?;
+        rows.push(row_of(*counted, fetches))?;
     }
     Ok(rows)
 }
 
 // What caches that have fetched what a run did make of it.
-fn ended_rows(
-    alloc: Global,
-    all: &mut AllCaches,
-    fetches: u64,
-) -> Result<Vec<CacheRow>, AllocError> {
+fn ended_rows(alloc: Global, all: &mut AllCaches, fetches: u64) -> Result<Vec<CacheRow>, AllocError>
+    ensures { IfOk result (λ rows. (gs : List Geometry) (past : List ℕ) → length past ≡ fetches → fetches < 2 ^ 32
+        → AllHold all.old.groups.items gs past → rows.items ≡ map (row_over past) gs) }
+{
     let counted = all.counted(alloc)?;
-    rows_of(alloc, counted.as_slice(), fetches)
+    let rows = rows_of(alloc, counted.as_slice(), fetches)?;
+    Ok(rows)
 }
 
 // Runs a machine from its start, and has these caches fetch what it fetches.
@@ -84,6 +118,8 @@ fn study_with<M: Machine>(
     all: &mut AllCaches,
 ) -> Result<Study, Memory>
     requires { M.cycles machine.old ≡ 0 }
+    ensures { IfOk result (λ study. (p : Program) (gs : List Geometry) → M.stands machine.old p []
+        → (AreCaches gs → AllHold all.old.groups.items gs []) → IsStudy p budget gs study) }
 {
     let halted = run(machine, &Requests::none(alloc), budget, all);
     let counts = machine.counts();
@@ -106,6 +142,7 @@ pub fn study_of<M: Machine>(
     geometries: &[Geometry],
 ) -> Result<Study, Memory>
     requires { M.cycles machine.old ≡ 0 }
+    ensures { IfOk result (λ study. (p : Program) → M.stands machine.old p [] → IsStudy p budget geometries.now study) }
 {
     match AllCaches::new(alloc, geometries) {
         Ok(mut all) => study_with(alloc, machine, budget, &mut all),

@@ -1,8 +1,8 @@
 //! What a run cost, in the format of callgrind.
 use crate::grouping::{By, Grouping, grouping_by};
-use crate::positions::{Positions, positions_of};
 use crate::shown::push_last;
 use crate::subject::Subject;
+use lab_positions::{Positions, positions_of};
 use lab_profile::{Called, Calls, LineCost};
 use lab_writer::Writer;
 use mx_isa::CODE_BASE;

@@ -1,8 +1,7 @@
 //! Parts of a source by which costs are told.
-use crate::positions::{Position, Positions, positions_of};
-use crate::spans::{Span, line_spans};
 use crate::subject::Subject;
 use indexmap::IndexMap;
+use lab_positions::{Position, Positions, Span, line_spans, positions_of};
 use mx_isa::DATA_BASE;
 use mx_source::{Label, Source, Statement, Value};
 use std::alloc::{AllocError, Global};

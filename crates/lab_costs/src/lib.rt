@@ -5,10 +5,8 @@
 mod document;
 mod events;
 mod grouping;
-mod positions;
 mod rows;
 mod shown;
-mod spans;
 mod spent;
 mod subject;
 mod text;

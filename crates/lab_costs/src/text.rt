@@ -2,9 +2,9 @@
 use crate::grouping::By;
 use crate::rows::{Row, rows_by};
 use crate::shown::{push_last, push_quotient};
-use crate::spans::{lines_of, without_return};
 use crate::spent::spent_in;
 use crate::subject::Subject;
+use lab_positions::{lines_of, without_return};
 use lab_profile::{Column, LineCost, Profile, Spent};
 use lab_writer::{Ratio, Writer};
 use mx_isa::CODE_BASE;

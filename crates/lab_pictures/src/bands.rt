@@ -4,6 +4,7 @@ use crate::label::{push_address, push_fitted_word};
 use crate::marks::{cell_of, ended_before, stage_name, without};
 use crate::subject::Subject;
 use lab_draw::{Cell, Frame, Row};
+use lab_positions::{Position, Positions, positions_of};
 use lab_writer::Writer;
 use std::alloc::{AllocError, Global};
 
@@ -170,51 +171,97 @@ fn push_row(text: &mut Writer, subject: &Subject, row: &Row, begins: usize, end:
     text.end_line();
 }
 
+/// What the rows of a band have been told of the lines of C.
+#[derive(Clone, Copy)]
+struct Told<'a> {
+    positions: &'a Positions,
+    /// The line of C of the last row that has one.
+    last: Option<Position>,
+}
+
+// Whether a line of C is another one than that of the rows before.
+fn is_new(last: Option<Position>, position: Position) -> bool {
+    match last {
+        Some(last) => last.file != position.file || last.line != position.line,
+        None => true,
+    }
+}
+
+// Appends the line of C that a row comes from, as a comment, where the row before it comes from another one.
+fn push_position(text: &mut Writer, subject: &Subject, told: &mut Told, row: &Row) {
+    let (_, line) = subject.origin_of(row.address);
+    let Some(position) = told.positions.at(line.unwrap_or(0)) else {
+        return;
+    };
+    if is_new(told.last, position) {
+        text.push_str("; ");
+        text.push_str(str::from_utf8(position.name.bytes(subject.text)).unwrap_or(""));
+        text.end_line();
+    }
+    told.last = Some(position);
+}
+
 // Appends the lines of the rows in the band from a place to another.
-fn push_rows(text: &mut Writer, subject: &Subject, rows: &[Row], begins: usize, end: usize) {
+fn push_rows(
+    text: &mut Writer,
+    subject: &Subject,
+    positions: &Positions,
+    rows: &[Row],
+    begins: usize,
+    end: usize,
+) {
+    let mut told = Told {
+        positions,
+        last: None,
+    };
     for row in rows {
         if row.begins >= end {
             return;
         }
         if is_seen(row, begins, end) {
+            push_position(text, subject, &mut told, row);
             push_row(text, subject, row, begins, end);
         }
     }
 }
 
 // Appends the band from a place on, with the rows that have not ended before it.
-fn push_band(text: &mut Writer, subject: &Subject, rows: &[Row], begins: usize, shown: &[Frame]) {
+fn push_band(
+    text: &mut Writer,
+    subject: &Subject,
+    positions: &Positions,
+    rows: &[Row],
+    begins: usize,
+    shown: &[Frame],
+) {
     let first = u64::from(subject.from).saturating_add(begins as u64);
     push_heads(text, first, shown);
-    push_rows(
-        text,
-        subject,
-        rows,
-        begins,
-        begins.saturating_add(shown.len()),
-    );
+    let end = begins.saturating_add(shown.len());
+    push_rows(text, subject, positions, rows, begins, end);
     text.push('\n');
 }
 
 // Appends the bands.
-fn push_bands(text: &mut Writer, subject: &Subject, rows: &[Row]) {
+fn push_bands(text: &mut Writer, subject: &Subject, positions: &Positions, rows: &[Row]) {
     let mut left = rows;
     let mut begins = 0usize;
     for shown in subject.drawing.frames.as_slice().chunks(COLUMNS) {
         left = without(left, ended_before(left, begins.saturating_add(1)));
-        push_band(text, subject, left, begins, shown);
+        push_band(text, subject, positions, left, begins, shown);
         begins = begins.saturating_add(COLUMNS);
     }
 }
 
-/// A drawing as a text of 100 columns: bands of sixteen cycles, a row a fetch, a cell a cycle.
+/// A drawing as a text of 100 columns: bands of sixteen cycles, a row a fetch, a cell a cycle. In a source that was made from C a comment
+/// `; FILE:LINE` comes before the rows of a line of C.
 ///
 /// # Errors
 ///
 /// `AllocError` where there is no room for it.
 pub fn text(alloc: Global, subject: &Subject, rows: &[Row]) -> Result<Vec<u8>, AllocError> {
+    let positions = positions_of(alloc, subject.text)?;
     let mut text = Writer::new(alloc);
-    push_bands(&mut text, subject, rows);
+    push_bands(&mut text, subject, &positions, rows);
     text.push_str(
         "IF RF ALU MEM WB: the stages; .. waits for the cache; * squashed; ! killed by an interrupt\n",
     );

@@ -77,15 +77,16 @@ unquoted name = filter (λ b. not (b == 34)) name
 -- the comment with the file and the line of a statement
 pub told_reads : (K : Labels) (name : Option (Bor (List ℕ))) (line : ℕ) → FileFits name → line < 2 ^ 32 → Reads K (told_text name line) [] 0 None
 told_reads K None line h small = inl (record { untold = refl; unlabelled = refl; uncounted = refl; unsaid = refl })
-told_reads K (Some name) line h small = by_length (nat_le (length name.now) 160)
+told_reads K (Some name) line h small = by_length (nat_le (length name.now) 160) refl
   where
-    one : is_one_line (codes "; " ++ unquoted name.now ++ codes ":" ++ decimal line) ≡ true
-    one =
+    one : is_one_line name.now ≡ true → is_one_line (codes "; " ++ unquoted name.now ++ codes ":" ++ decimal line) ≡ true
+    one named =
         both_lines (codes "; " ++ unquoted name.now ++ codes ":") (decimal line)
         (both_lines (codes "; " ++ unquoted name.now) (codes ":") (both_lines (codes "; ") (unquoted name.now) refl
-        (still_one (λ b. not (b == 34)) name.now h)) refl)
+        (still_one (λ b. not (b == 34)) name.now named)) refl)
         (digits_one (decimal line) (decimal_is_IsNumeral line (omega arith)).0.1)
 
-    by_length : (t : Bool) → Reads K (cond t (codes "; " ++ unquoted name.now ++ codes ":" ++ decimal line ++ codes "\n") []) [] 0 None
-    by_length true = inr (comment_reads K (32 ∷ unquoted name.now ++ codes ":" ++ decimal line) one)
-    by_length false = inl (record { untold = refl; unlabelled = refl; uncounted = refl; unsaid = refl })
+    by_length : (t : Bool) → nat_le (length name.now) 160 ≡ t
+        → Reads K (cond t (codes "; " ++ unquoted name.now ++ codes ":" ++ decimal line ++ codes "\n") []) [] 0 None
+    by_length true e = inr (comment_reads K (32 ∷ unquoted name.now ++ codes ":" ++ decimal line) (one (h e)))
+    by_length false e = inl (record { untold = refl; unlabelled = refl; uncounted = refl; unsaid = refl })

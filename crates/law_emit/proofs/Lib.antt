@@ -3,6 +3,9 @@ pub mod Data
 pub mod DataAdded
 pub mod DataImage
 pub mod DataLines
+pub mod FitData
+pub mod FitNames
+pub mod Fits
 pub mod Labels
 pub mod Lines
 pub mod Comments

@@ -45,9 +45,12 @@ name_goes_on (b ∷ bytes) more h k =
     ∙ ap (λ t. t && list_all continues_name more) both.1
     ∙ k
 
--- a name before a number
+-- a number, and a name before one
+pub decimal_continues : (n : ℕ) → n < 2 ^ 32 → list_all continues_name (decimal n) ≡ true
+decimal_continues n small = digits_continue (decimal n) (decimal_is_IsNumeral n (omega arith)).0.1
+
 pub numbered : (name : List ℕ) (n : ℕ) → is_name name ≡ true → n < 2 ^ 32 → is_name (name ++ decimal n) ≡ true
-numbered name n h small = name_goes_on name (decimal n) h (digits_continue (decimal n) (decimal_is_IsNumeral n (omega arith)).0.1)
+numbered name n h small = name_goes_on name (decimal n) h (decimal_continues n small)
 
 routine_named : (r : Routine) → is_name (routine_label r) ≡ true
 routine_named routine.Low = refl

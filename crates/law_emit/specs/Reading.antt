@@ -1,5 +1,5 @@
 -- How the text of a line is read.
-use Rattle.std.specs.Prelude.{◌≡◌, ℕ, ◌+◌, ◌^◌, ◌≤◌, ◌<◌, Bool, true, false, cond, not, ◌||◌, ◌==◌, nat_eq, ◌⊎◌, List, [], ◌∷◌, ◌++◌, Option, Some, None, Result, Ok}
+use Rattle.std.specs.Prelude.{◌≡◌, ℕ, ◌+◌, ◌^◌, ◌≤◌, ◌<◌, Bool, true, false, cond, not, ◌||◌, ◌==◌, nat_eq, nat_le, ◌⊎◌, List, [], ◌∷◌, ◌++◌, length, Option, Some, None, Result, Ok}
 use Rattle.std.specs.List.{list_all, ends_with}
 use Rattle.std.specs.Borrow.{Bor}
 use Rattle.mx_isa.specs.Fields.{IsSignedField}
@@ -130,9 +130,10 @@ TransferFits symbols Halt = Unit {0}
 abbrev pub is_one_line : List ℕ → Bool
 is_one_line text = list_all (λ b. not (b == 10 || b == 13)) text
 
+-- no byte of the name of a file ends a line, unless the name is too long for a comment
 abbrev pub FileFits : Option (Bor (List ℕ)) → Type 0
 FileFits None = Unit {0}
-FileFits (Some name) = is_one_line name.now ≡ true
+FileFits (Some name) = nat_le (length name.now) 160 ≡ true → is_one_line name.now ≡ true
 
 -- words begin with a mnemonic, or there are none
 abbrev pub IsCode : List TextWord → Type 0

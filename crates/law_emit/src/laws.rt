@@ -13,6 +13,7 @@ ghost use Rattle.cc_emit.specs.declared.output.Output.{Output};
 ghost use Rattle.cc_emit.specs.Lines.{is_statement, lines_text};
 ghost use Rattle.cc_emit.specs.Routines.{routines_text};
 ghost use Rattle.cc_emit.specs.Sources.{code_text, source_text};
+ghost use Rattle.cc_fits.specs.Translations.{IsTranslation};
 ghost use Rattle.law_emit.specs.Reading.{LineFits, LineReads, line_names};
 ghost use Rattle.law_emit.specs.Lines.{DataFits, IsSourceOf, resolve};
 ghost use Rattle.law_emit.specs.Routines.{routine_lines};
@@ -52,4 +53,12 @@ pub fn source_reads_back()
         → lines_text p out.lines.items ≡ lines_text p lines → DataFits p out behind end
         → (address limit : ℕ) → address ≤ PAST_END → (source : SourceValue) → ReadsAs address limit (source_text p out behind end) source
         → resolve source.labels p lines ≡ Ok source.statements }
+{}
+
+/// The source of a translation has the statements that its lines are by its labels, those of its routines after the others. There is no
+/// other premise: lines and data are checked before they are printed (`check_lines`, `check_data` of `cc_fits`).
+pub fn translation_reads_back()
+    ensures { (text : List ℕ) (translation : IsTranslation text) (address limit : ℕ) → address ≤ PAST_END → (source : SourceValue)
+        → ReadsAs address limit text source
+        → resolve source.labels translation.program (translation.lines.lines ++ routine_lines translation.lines.called) ≡ Ok source.statements }
 {}

@@ -37,7 +37,7 @@ copied_by false bus rs rd s h same =
 either_of : (rs rd : ℕ) → (rs == rd || rd == 0) ≡ true → (rs ≡ rd) ⊎ (rd ≡ 0)
 either_of rs rd h = grind (arith, nat_tests)
 
-copied_gives : (bus : Bus) (rs rd : ℕ) (s : Core) → HoldsWords s.regs → Gives rd (Number (reg s.regs rs)) s (ran bus (lines.copied rs rd) s)
+pub copied_gives : (bus : Bus) (rs rd : ℕ) (s : Core) → HoldsWords s.regs → Gives rd (Number (reg s.regs rs)) s (ran bus (lines.copied rs rd) s)
 copied_gives bus rs rd s h = copied_by (rs == rd || rd == 0) bus rs rd s h (either_of rs rd)
 
 -- a copy, or an operation
@@ -71,7 +71,7 @@ nor_by false false bus rd rs rt s h f g =
     let u = ran bus (Compute Or rs rt rd ∷ []) s in
     twice rd _ _ s u _ k (gives_as rd _ _ u _ (λ ne. ap (λ n. 2 ^ 32 - 1 - n) (k.given ne)) (computes bus rd rd 0 machine.Not u k.words tt refl))
 
-operated_gives : (o : Operation) → is_comparison o ≡ false → (rd rs rt : ℕ) (bus : Bus) (s : Core) → HoldsWords s.regs
+pub operated_gives : (o : Operation) → is_comparison o ≡ false → (rd rs rt : ℕ) (bus : Bus) (s : Core) → HoldsWords s.regs
     → Gives rd (Number (operated o (reg s.regs rs) (reg s.regs rt))) s (ran bus (lines.operated o rd rs rt) s)
 operated_gives op.Add c rd rs rt bus s h =
     let small = h rs in
@@ -93,7 +93,7 @@ operated_gives op.Less c rd rs rt bus s h = absurd (cc)
 operated_gives op.Lower c rd rs rt bus s h = absurd (cc)
 
 -- only numbers have a value
-computed_of : (o : Operation) (a b : Value) → is_comparison o ≡ false
+pub computed_of : (o : Operation) (a b : Value) → is_comparison o ≡ false
     → computed o a b ≡ and_then (number_of a) (λ x. and_then (number_of b) (λ y. Ok (Number (operated o x y))))
 computed_of op.Add a b c = refl
 computed_of op.Sub a b c = refl
@@ -104,7 +104,7 @@ computed_of op.Nor a b c = refl
 computed_of op.Less a b c = absurd (cc)
 computed_of op.Lower a b c = absurd (cc)
 
-two_numbers : (f : ℕ → ℕ → ℕ) (a b v : Value) (x y : ℕ) → ShowsValue a x → ShowsValue b y
+pub two_numbers : (f : ℕ → ℕ → ℕ) (a b v : Value) (x y : ℕ) → ShowsValue a x → ShowsValue b y
     → and_then (number_of a) (λ m. and_then (number_of b) (λ n. Ok (Number (f m n)))) ≡ Ok v → Number (f x y) ≡ v
 two_numbers f (Number m) (Number n) v x y h k e = ap (λ i. Number (f i y)) h ∙ ap (λ i. Number (f m i)) k ∙ cc
 two_numbers f (Number m) (Code item) v x y h k e = absurd (cc)

@@ -3,4 +3,7 @@
 
 mod laws;
 
-pub use laws::{comparison_holds, comparison_with_zero_holds, operation_gives, shift_gives};
+pub use laws::{
+    added_leaves, branch_gives, comparison_holds, comparison_leaves, comparison_with_zero_holds,
+    computed_leaves, constant_leaves, operation_gives, shift_gives,
+};

@@ -1,0 +1,4 @@
+mod Fetches
+mod Counts
+mod Runs
+mod Rows
