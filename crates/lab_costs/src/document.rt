@@ -1,4 +1,6 @@
 //! What a run cost, as JSON.
+ghost use Rattle.std.specs.Prelude.{◌≡◌, ◌+◌, ◌-◌, ◌^◌, min, slice_index};
+
 use crate::grouping::By;
 use crate::rows::{Row, rows_by};
 use crate::shown::text_of;
@@ -36,12 +38,16 @@ fn parts_of(on: Spent) -> [(&'static str, u64); 6] {
 }
 
 // What was counted at a word of the code, 0 past its end.
-fn counted(list: &[u64], place: usize) -> u64 {
+fn counted(list: &[u64], place: usize) -> u64
+    ensures { result ≡ slice_index list.now place }
+{
     list.get(place).copied().unwrap_or(0)
 }
 
 // The address of a word of the code.
-fn address_of(place: usize) -> u32 {
+fn address_of(place: usize) -> u32
+    ensures { result ≡ min (CODE_BASE + place) (2 ^ 32 - 1) }
+{
     CODE_BASE.saturating_add(u32::try_from(place).unwrap_or(u32::MAX))
 }
 

@@ -1,4 +1,7 @@
 //! What a run cost, in the format of callgrind.
+ghost use Rattle.std.specs.Prelude.{◌≡◌};
+ghost use Rattle.lab_costs.specs.Costs.{events_of};
+
 use crate::grouping::{By, Grouping, grouping_by};
 use crate::shown::push_last;
 use crate::subject::Subject;
@@ -142,7 +145,9 @@ fn push_row(text: &mut Writer, first: u64, rest: &[u64]) {
 }
 
 // The numbers of a cost, by columns.
-fn columns_of(cost: &LineCost) -> [u64; 7] {
+fn columns_of(cost: &LineCost) -> [u64; 7]
+    ensures { result ≡ events_of cost.now }
+{
     [
         cost.cycles,
         cost.executed,
