@@ -22,11 +22,6 @@ from cprograms import GCC, TOP, Fault
 LEVEL = "2"
 STEPS = 1_000_000_000
 SECONDS = 600
-# Stored programs that come to what the semantics leaves open, and what that is.
-LEFT_OPEN = {
-    # it compares pointers to functions by a subtraction
-    "callbacks": "it computes with a code address",
-}
 library = []
 
 
@@ -85,8 +80,7 @@ def try_stored(job):
             compare(base, source, given, cc.answer_of(source, f"{base}.native", given))
         os.remove(f"{base}.native")
     except Fault as fault:
-        is_open = name in LEFT_OPEN and str(fault).endswith(f": {LEFT_OPEN[name]}")
-        return name, "left open" if is_open else "FAILED", str(fault)
+        return name, "FAILED", str(fault)
     return name, "same", ""
 
 
@@ -135,7 +129,7 @@ def main():
         with multiprocessing.Pool(int(os.environ.get("CC_JOBS", "2"))) as pool:
             verdicts += try_all(pool, folder, drawn, words, bool(missing))
     common.failures = verdicts.count("FAILED")
-    print(f"{len(verdicts)} rows and programs, {verdicts.count('same')} the same, {verdicts.count('passed over')} passed over, {verdicts.count('left open')} left open")
+    print(f"{len(verdicts)} rows and programs, {verdicts.count('same')} the same, {verdicts.count('passed over')} passed over")
     return common.finish("semantics of compiled assembly", "rows and programs", verdicts.count("same") + common.failures)
 
 

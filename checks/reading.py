@@ -22,8 +22,10 @@ PAGE = ROOT / "docs/READING.md"
 TOP = ROOT / "crates/mx_command/src/system.rt"
 CALL = "command_on_system"
 HEADLINE = ROOT / "crates/mx_command/specs/Headline.antt"
-# The calls of the semantics of compiled assembly, which the theorem does not speak of: a machine at its start, and a run of it.
-COMPILED = ((ROOT / "crates/cc_meaning/src/machine.rt", "new"), (ROOT / "crates/cc_meaning/src/running.rt", "run"))
+# The calls of the semantics of compiled assembly, which the theorem does not speak of: a machine at its start, a run of it, and where
+# memory is not the program's.
+COMPILED = ((ROOT / "crates/cc_meaning/src/machine.rt", "new"), (ROOT / "crates/cc_meaning/src/running.rt", "run"),
+    (ROOT / "crates/cc_meaning/src/layout.rt", "of"))
 # The types of the call itself, besides those that its clauses name.
 TYPES = (("mx_io", "real", "RealShelf"), ("mx_io", "real", "RealSink"), ("cmd_answer", "status", "Status"))
 # The first stage: what is claimed of `run`, the machine, which words run, and how reports and interrupt files are spelled.

@@ -8,6 +8,7 @@ use Rattle.cc_program.specs.declared.program.Program.{Program}
 use Rattle.cc_meaning.specs.declared.machine.Stepped.{Stepped}
 use Rattle.cc_meaning.specs.declared.machine.Stepped.TheVariants as stepped
 use Rattle.cc_meaning.specs.declared.running.Ending.TheVariants as ending
+use Rattle.cc_meaning.specs.declared.layout.Layout.{Layout}
 use Rattle.cc_meaning.specs.States.{State, Outcome, Next, Halted, Stuck}
 use Rattle.cc_meaning.specs.Steps.{step}
 use Rattle.cc_meaning.specs.Runs.{Run, after, run_for}
@@ -39,11 +40,11 @@ answered (Halted status) s console rest = refl
 answered (Stuck why) s console rest = refl
 
 -- a run of one more step, of which this is known
-pub one_more : (p : Program) (end : ℕ) (input : List ℕ) (n more : ℕ) (s new : State) (console : List ℕ) (answer : Stepped)
-    → more ≡ suc n → new ≡ state_after (step p end input s) s → answer ≡ answer_of (step p end input s)
-    → run_for p end input more s console ≡ after_answer answer new console (run_for p end input n)
-one_more p end input n more s new console answer count left told =
-    ap (λ k. run_for p end input k s console) count
-    ∙ answered (step p end input s) s console (run_for p end input n)
-    ∙ ap (λ a. after_answer a (state_after (step p end input s) s) console (run_for p end input n)) (sym told)
-    ∙ ap (λ x. after_answer answer x console (run_for p end input n)) (sym left)
+pub one_more : (p : Program) (l : Layout) (input : List ℕ) (n more : ℕ) (s new : State) (console : List ℕ) (answer : Stepped)
+    → more ≡ suc n → new ≡ state_after (step p l input s) s → answer ≡ answer_of (step p l input s)
+    → run_for p l input more s console ≡ after_answer answer new console (run_for p l input n)
+one_more p l input n more s new console answer count left told =
+    ap (λ k. run_for p l input k s console) count
+    ∙ answered (step p l input s) s console (run_for p l input n)
+    ∙ ap (λ a. after_answer a (state_after (step p l input s) s) console (run_for p l input n)) (sym told)
+    ∙ ap (λ x. after_answer answer x console (run_for p l input n)) (sym left)

@@ -2,6 +2,7 @@ pub mod Values
 pub mod Memory
 pub mod Arithmetic
 pub mod States
+pub mod Layouts
 pub mod Instructions
 pub mod Start
 pub mod Steps

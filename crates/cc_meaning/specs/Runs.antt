@@ -3,6 +3,7 @@ use Rattle.std.specs.Prelude.{ℕ, zero, suc, List, [], ◌++◌, option_to_list
 use Rattle.cc_program.specs.declared.program.Program.{Program}
 use Rattle.cc_meaning.specs.declared.running.Ending.{Ending}
 use Rattle.cc_meaning.specs.declared.running.Ending.TheVariants as ending
+use Rattle.cc_meaning.specs.declared.layout.Layout.{Layout}
 use Rattle.cc_meaning.specs.States.{State, Outcome, Next, Halted, Stuck}
 use Rattle.cc_meaning.specs.Steps.{step}
 use Rattle.cc_meaning.specs.Start.{start}
@@ -20,10 +21,10 @@ after (Halted status) s console rest = record { state = s; console = console; en
 after (Stuck why) s console rest = record { state = s; console = console; ending = ending.Stuck why }
 
 -- at most n steps from a state, after this was sent
-abbrev pub run_for : Program → ℕ → List ℕ → ℕ → State → List ℕ → Run
-run_for p end input zero s console = record { state = s; console = console; ending = ending.Running }
-run_for p end input (suc n) s console = after (step p end input s) s console (run_for p end input n)
+abbrev pub run_for : Program → Layout → List ℕ → ℕ → State → List ℕ → Run
+run_for p l input zero s console = record { state = s; console = console; ending = ending.Running }
+run_for p l input (suc n) s console = after (step p l input s) s console (run_for p l input n)
 
 -- what a program means that starts at a symbol, in n steps
-abbrev pub meaning : Program → ℕ → ℕ → List ℕ → ℕ → Run
-meaning p end symbol input n = run_for p end input n (start p end symbol) []
+abbrev pub meaning : Program → Layout → ℕ → List ℕ → ℕ → Run
+meaning p l symbol input n = run_for p l input n (start p l symbol) []

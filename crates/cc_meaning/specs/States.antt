@@ -7,7 +7,7 @@ use Rattle.cc_meaning.specs.declared.value.Value.{Value}
 use Rattle.cc_meaning.specs.declared.value.Value.TheVariants.{Number, Code}
 use Rattle.cc_meaning.specs.declared.value.Why.{Why}
 use Rattle.cc_meaning.specs.declared.effect.Effect.{Effect}
-use Rattle.cc_meaning.specs.declared.effect.Effect.TheVariants.{Follows, Puts, PutsSpecial, PutsPair, Writes, Sends, Takes, Goes, Calls, Halts}
+use Rattle.cc_meaning.specs.declared.effect.Effect.TheVariants.{Follows, Puts, PutsSpecial, PutsPair, Writes, Sends, Takes, Goes, GoesBy, Calls, Halts}
 use Rattle.cc_meaning.specs.Values.{unspecified}
 
 pub record State : Type 0 where
@@ -59,12 +59,14 @@ changed input (PutsSpecial r v) s = with_special s r v
 changed input (PutsPair low high) s = record s { low = Number low; high = Number high }
 changed input (Writes address v) s = with_word s address v
 changed input (Takes r) s = with_input (slice_get input s.taken) r s
+changed input (GoesBy r item) s = with_register s r unspecified
 changed input (Calls item) s = with_register s (record { 0 = 31 }) (Code (suc s.next))
 changed input _ s = s
 
 -- the item that comes next, where another one follows this one
 abbrev pub next_item : Effect → ℕ → ℕ
 next_item (Goes item) following = item
+next_item (GoesBy r item) following = item
 next_item (Calls item) following = item
 next_item _ following = following
 

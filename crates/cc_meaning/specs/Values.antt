@@ -1,5 +1,6 @@
--- What a register or a word of memory holds: a number, a code address, or a word with bytes that are not specified.
-use Rattle.std.specs.Prelude.{ℕ, ◌+◌, ◌*◌, ◌/◌, ◌%◌, ◌^◌, ◌==◌, if◌then◌else◌, Option, Some, None, Result, Ok, Err}
+-- What a register or a word of memory holds: a number, a code address (a return address, or a label in a jump table), or a word with
+-- bytes that are not specified.
+use Rattle.std.specs.Prelude.{ℕ, ◌+◌, ◌*◌, ◌/◌, ◌%◌, ◌^◌, Option, Some, None, Result, Ok, Err}
 use Rattle.cc_meaning.specs.declared.value.Bytes.{Bytes}
 use Rattle.cc_meaning.specs.declared.value.Value.{Value}
 use Rattle.cc_meaning.specs.declared.value.Value.TheVariants.{Number, Code, Partial}
@@ -62,9 +63,3 @@ number_of (Partial bytes) = Err Unspecified
 abbrev pub code_of : Value → Result ℕ Why
 code_of (Code item) = Ok item
 code_of _ = Err NotCode
-
--- a value and a number; nothing but 0 may be added to a code address
-abbrev pub plus : Value → ℕ → Result Value Why
-plus (Number n) m = Ok (Number ((n + m) % 2 ^ 32))
-plus (Code item) m = if m == 0 then Ok (Code item) else Err CodeOperand
-plus (Partial bytes) m = Err Unspecified

@@ -6,7 +6,6 @@ ghost use Rattle.cc_meaning.specs.Arithmetic;
 
 use crate::value::{Value, Why};
 use cc_lines::{Condition, Long, Operation, Shift};
-use cc_rules::FIRST_BYTE;
 
 /// Whether word a is less than word b, as signed numbers.
 fn is_less(a: u32, b: u32) -> bool
@@ -33,56 +32,15 @@ fn holds(condition: Condition, a: u32, b: u32) -> bool
     }
 }
 
-/// Whether a condition asks nothing of signs.
-fn is_unsigned(condition: Condition) -> bool
-    ensures { result ≡ Arithmetic.is_unsigned condition }
-{
-    !matches!(
-        condition,
-        Condition::Less | Condition::NotLess | Condition::Greater | Condition::NotGreater
-    )
-}
-
-/// A comparison of two code addresses: they are equal or not, and have no order.
-fn compared_codes(condition: Condition, a: usize, b: usize) -> Result<bool, Why>
-    ensures { result ≡ Arithmetic.compared_codes condition a b }
-{
-    match condition {
-        Condition::Equal => Ok(a == b),
-        Condition::NotEqual => Ok(a != b),
-        _ => Err(Why::CodeOperand),
-    }
-}
-
-/// The answer, if a code address and this number can be compared.
-fn if_below(condition: Condition, number: u32, answer: bool) -> Result<bool, Why>
-    ensures { result ≡ Arithmetic.if_below condition number answer }
-{
-    if is_unsigned(condition) && u64::from(number) < FIRST_BYTE {
-        Ok(answer)
-    } else {
-        Err(Why::CodeOperand)
-    }
-}
-
-/// The lowest address that code may have.
-const LOWEST: u32 = 1024;
-
 /// Whether a condition holds of two values.
 pub(crate) fn compared(condition: Condition, a: Value, b: Value) -> Result<bool, Why>
     ensures { result ≡ Arithmetic.compared condition a b }
 {
-    match (a, b) {
-        (Value::Number(a), Value::Number(b)) => Ok(holds(condition, a, b)),
-        (Value::Code(a), Value::Code(b)) => compared_codes(condition, a, b),
-        (Value::Code(_), Value::Number(n)) => if_below(condition, n, holds(condition, LOWEST, n)),
-        (Value::Number(n), Value::Code(_)) => if_below(condition, n, holds(condition, n, LOWEST)),
-        (Value::Partial(_), _) | (_, Value::Partial(_)) => Err(Why::Unspecified),
-    }
+    Ok(holds(condition, a.number()?, b.number()?))
 }
 
-/// What an operation but for comparisons gives.
-fn operated(op: Operation, a: u32, b: u32) -> u32
+/// What an operation on two words gives.
+pub(crate) fn operated(op: Operation, a: u32, b: u32) -> u32
     ensures { result ≡ Arithmetic.operated op a b }
 {
     match op {
@@ -97,26 +55,11 @@ fn operated(op: Operation, a: u32, b: u32) -> u32
     }
 }
 
-/// The number of a comparison.
-fn truth(compared: Result<bool, Why>) -> Result<Value, Why>
-    ensures { result ≡ Arithmetic.truth_of compared }
-{
-    match compared {
-        Ok(true) => Ok(Value::Number(1)),
-        Ok(false) => Ok(Value::Number(0)),
-        Err(why) => Err(why),
-    }
-}
-
 /// What an operation gives.
 pub(crate) fn computed(op: Operation, a: Value, b: Value) -> Result<Value, Why>
     ensures { result ≡ Arithmetic.computed op a b }
 {
-    match op {
-        Operation::Less => truth(compared(Condition::Less, a, b)),
-        Operation::Lower => truth(compared(Condition::Lower, a, b)),
-        _ => Ok(Value::Number(operated(op, a.number()?, b.number()?))),
-    }
+    Ok(Value::Number(operated(op, a.number()?, b.number()?)))
 }
 
 /// Shifted right, and filled with bit 31.

@@ -2,11 +2,12 @@
 ghost use Rattle.std.specs.Prelude.{◌≡◌, ◌<◌, ◌^◌, fold, IfOk};
 ghost use Rattle.cc_meaning.specs.Start;
 
+use crate::layout::Layout;
 use crate::machine::{put_value, value_in};
 use crate::parts::with_byte;
-use crate::symbols::symbol_value;
+use crate::symbols::{item_named, symbol_value};
 use crate::value::{UNSPECIFIED, Value, value_of};
-use cc_program::{Meaning, Object, Program, Reference};
+use cc_program::{Object, Program, Reference};
 use std::alloc::{AllocError, Global};
 
 /// How many words memory has.
@@ -33,12 +34,16 @@ fn put_bytes(memory: &mut Vec<Value>, start: usize, bytes: &[u8])
     }
 }
 
-/// The value of a word that names a symbol.
-fn reference_value(symbol: Value, addend: u32, from: Option<u32>) -> Value
-    ensures { result ≡ Start.reference_value symbol addend from }
+/// The value of a word that is a symbol's address and a number, less the address of another symbol.
+fn reference_value(program: &Program<'_>, symbol: Value, addend: u32, from: Option<u32>) -> Value
+    ensures { result ≡ Start.reference_value program.now symbol addend from }
 {
-    match (symbol.plus(addend), from) {
-        (Ok(value), None) => value,
+    match (symbol, from) {
+        (Value::Number(own), None) => Value::Number(own.wrapping_add(addend)),
+        (Value::Number(own), Some(from)) => {
+            Value::Number(own.wrapping_add(addend).wrapping_sub(program.address(from)))
+        }
+        (Value::Code(_), None) if addend == 0 => symbol,
         _ => UNSPECIFIED,
     }
 }
@@ -47,15 +52,15 @@ fn reference_value(symbol: Value, addend: u32, from: Option<u32>) -> Value
 fn put_reference(
     memory: &mut Vec<Value>,
     program: &Program<'_>,
-    end: u32,
+    layout: &Layout,
     start: usize,
     one: &Reference,
 )
     requires { start < 2 ^ 32 }
-    ensures { memory.new.items ≡ Start.with_reference program.now end start memory.old.items one.now }
+    ensures { memory.new.items ≡ Start.with_reference program.now layout.now start memory.old.items one.now }
 {
-    let symbol = symbol_value(program, end, Some(one.symbol));
-    let value = reference_value(symbol, one.addend, one.from);
+    let symbol = symbol_value(program, layout, Some(one.symbol));
+    let value = reference_value(program, symbol, one.addend, one.from);
     put_value(memory, (start + one.at as usize) / 4, value);
 }
 
@@ -63,56 +68,54 @@ fn put_reference(
 fn put_references(
     memory: &mut Vec<Value>,
     program: &Program<'_>,
-    end: u32,
+    layout: &Layout,
     start: usize,
     references: &[Reference],
 )
     requires { start < 2 ^ 32 }
-    ensures { memory.new.items ≡ fold (Start.with_reference program.now end start) memory.old.items references.now }
+    ensures { memory.new.items ≡ fold (Start.with_reference program.now layout.now start) memory.old.items references.now }
 {
     for one in references {
-        put_reference(memory, program, end, start, one);
+        put_reference(memory, program, layout, start, one);
     }
 }
 
-/// Puts a datum into memory.
-fn put_content(memory: &mut Vec<Value>, program: &Program<'_>, end: u32, object: &Object)
-    ensures { memory.new.items ≡ Start.with_content program.now end memory.old.items object.now }
+/// Puts a datum into memory: the code address of this item, if it is a descriptor.
+fn put_content(
+    memory: &mut Vec<Value>,
+    program: &Program<'_>,
+    layout: &Layout,
+    object: &Object,
+    item: Option<usize>,
+)
+    ensures { memory.new.items ≡ Start.with_content program.now layout.now memory.old.items object.now item }
 {
     let start = object.standing.address as usize;
-    put_bytes(memory, start, &object.content.bytes);
-    put_references(memory, program, end, start, &object.content.references);
-}
-
-/// Whether a symbol is one of code.
-fn is_code(meaning: Meaning) -> bool
-    ensures { result ≡ Start.is_code meaning }
-{
-    matches!(meaning, Meaning::Function(_) | Meaning::Place { .. })
-}
-
-/// Whether a datum is put into memory: one that the program reaches.
-fn is_laid(program: &Program<'_>, object: &Object) -> bool
-    ensures { result ≡ Start.is_laid program.now object.now }
-{
-    object.kept && !is_code(program.symbols.meaning(object.symbol))
+    match item {
+        Some(item) => put_value(memory, start / 4, Value::Code(item)),
+        None => {
+            put_bytes(memory, start, &object.content.bytes);
+            put_references(memory, program, layout, start, &object.content.references);
+        }
+    }
 }
 
 /// Puts a datum into memory, if the program reaches it.
-fn put_object(memory: &mut Vec<Value>, program: &Program<'_>, end: u32, object: &Object)
-    ensures { memory.new.items ≡ Start.with_object program.now end memory.old.items object.now }
+fn put_object(memory: &mut Vec<Value>, program: &Program<'_>, layout: &Layout, object: &Object)
+    ensures { memory.new.items ≡ Start.with_object program.now layout.now memory.old.items object.now }
 {
-    if is_laid(program, object) {
-        put_content(memory, program, end, object);
+    if object.kept {
+        let item = item_named(program, object.symbol);
+        put_content(memory, program, layout, object, item);
     }
 }
 
 /// Puts data into memory.
-fn put_objects(memory: &mut Vec<Value>, program: &Program<'_>, end: u32, objects: &[Object])
-    ensures { memory.new.items ≡ fold (Start.with_object program.now end) memory.old.items objects.now }
+fn put_objects(memory: &mut Vec<Value>, program: &Program<'_>, layout: &Layout, objects: &[Object])
+    ensures { memory.new.items ≡ fold (Start.with_object program.now layout.now) memory.old.items objects.now }
 {
     for object in objects {
-        put_object(memory, program, end, object);
+        put_object(memory, program, layout, object);
     }
 }
 
@@ -129,11 +132,11 @@ fn empty_memory(alloc: Global, words: usize) -> Result<Vec<Value>, AllocError>
 pub(crate) fn start_memory(
     alloc: Global,
     program: &Program<'_>,
-    end: u32,
+    layout: &Layout,
 ) -> Result<Vec<Value>, AllocError>
-    ensures { IfOk result (λ m. m.items ≡ Start.start_memory program.now end) }
+    ensures { IfOk result (λ m. m.items ≡ Start.start_memory program.now layout.now) }
 {
     let mut memory = empty_memory(alloc, MEMORY_WORDS)?;
-    put_objects(&mut memory, program, end, program.objects.as_slice());
+    put_objects(&mut memory, program, layout, program.objects.as_slice());
     Ok(memory)
 }

@@ -5,13 +5,13 @@ ghost use Rattle.cc_meaning.specs.Machines.{state_of};
 ghost use Rattle.cc_meaning.specs.Steps;
 
 use crate::arithmetic::{compared, computed, multiplied, shifted};
+use crate::layout::Layout;
 use crate::machine::Machine;
 use crate::parts::{loaded, stored};
-use crate::symbols::symbol_value;
+use crate::symbols::{item_named, symbol_value};
 use crate::value::{Value, Why};
 use cc_lines::{Condition, Instruction, LinkFrom, Long, Register, Source, Special, Width};
 use cc_program::{Item, Program};
-use cc_rules::{FIRST_BYTE, LIMIT};
 
 /// A load of a word from this address takes a byte of the input.
 pub const INPUT: u32 = 1016;
@@ -33,7 +33,7 @@ pub const STATUS_ZERO: u8 = 136;
 /// The same for all other traps.
 pub const STATUS_TRAP: u8 = 133;
 
-/// What an item does to a state. All but `Goes`, `Calls` and `Halts` go on with the next item.
+/// What an item does to a state. All but `Goes`, `GoesBy`, `Calls` and `Halts` go on with the next item.
 #[derive(Clone, Copy)]
 pub enum Effect {
     Follows,
@@ -50,17 +50,12 @@ pub enum Effect {
     /// The next byte of the input goes to a register.
     Takes(Register),
     Goes(usize),
+    /// Goes to an item by a register, whose value is not specified any more.
+    GoesBy(Register, usize),
     /// Goes to an item, and register 31 takes the code address of the next one.
     Calls(usize),
     /// The program ends with a status.
     Halts(u8),
-}
-
-/// Whether a load or a store at an address reaches memory.
-fn is_memory(address: u32) -> bool
-    ensures { result ≡ Instructions.is_memory address }
-{
-    u64::from(address) >= FIRST_BYTE && address < LIMIT
 }
 
 /// Whether a load or a store moves a word.
@@ -80,12 +75,32 @@ fn puts(rd: Register, value: Result<Value, Why>) -> Result<Effect, Why>
     }
 }
 
-/// A branch to a symbol with this value.
-fn branches(symbol: Value, taken: bool) -> Result<Effect, Why>
-    ensures { result ≡ Instructions.branches symbol taken }
+/// A number as a value, if there is one.
+fn number(number: Result<u32, Why>) -> Result<Value, Why>
+    ensures { result ≡ Instructions.number number }
+{
+    Ok(Value::Number(number?))
+}
+
+/// The item that a symbol names.
+fn target(program: &Program<'_>, symbol: Option<u32>) -> Result<usize, Why>
+    ensures { result ≡ Instructions.target program.now symbol }
+{
+    let Some(symbol) = symbol else {
+        return Err(Why::NotCode);
+    };
+    match item_named(program, symbol) {
+        Some(item) => Ok(item),
+        None => Err(Why::NotCode),
+    }
+}
+
+/// A branch to a symbol.
+fn branches(program: &Program<'_>, symbol: Option<u32>, taken: bool) -> Result<Effect, Why>
+    ensures { result ≡ Instructions.branches program.now symbol taken }
 {
     if taken {
-        Ok(Effect::Goes(symbol.code()?))
+        Ok(Effect::Goes(target(program, symbol)?))
     } else {
         Ok(Effect::Follows)
     }
@@ -109,26 +124,25 @@ impl Machine {
         }
     }
 
-    /// A symbol's value, a number and what a register holds, added.
-    fn address_value(&self, symbol: Value, base: Register, offset: u32) -> Result<Value, Why>
-        ensures { result ≡ Instructions.address_value symbol (state_of self.now) base offset }
-    {
-        let number = self.register(base).number()?;
-        symbol.plus(number.wrapping_add(offset))
-    }
-
-    /// The address of a load or a store.
+    /// A symbol's address, a number and what a register holds, added.
     fn address(&self, symbol: Value, base: Register, offset: u32) -> Result<u32, Why>
         ensures { result ≡ Instructions.address symbol (state_of self.now) base offset }
     {
-        self.address_value(symbol, base, offset)?.number()
+        let from = self.register(base).number()?;
+        Ok(symbol.number()?.wrapping_add(from.wrapping_add(offset)))
     }
 
     /// A load from an address.
-    fn load_at(&self, width: Width, rd: Register, address: u32) -> Result<Effect, Why>
-        ensures { result ≡ Instructions.load_at width (state_of self.now) rd address }
+    fn load_at(
+        &self,
+        layout: &Layout,
+        width: Width,
+        rd: Register,
+        address: u32,
+    ) -> Result<Effect, Why>
+        ensures { result ≡ Instructions.load_at layout.now width (state_of self.now) rd address }
     {
-        if is_memory(address) {
+        if layout.is_memory(address) {
             let word = self.memory_word(address);
             puts(rd, loaded(width, address % 4, word, self.register(rd)))
         } else if is_word(width) && address == INPUT {
@@ -139,10 +153,16 @@ impl Machine {
     }
 
     /// A store to an address.
-    fn store_at(&self, width: Width, rs: Register, address: u32) -> Result<Effect, Why>
-        ensures { result ≡ Instructions.store_at width (state_of self.now) rs address }
+    fn store_at(
+        &self,
+        layout: &Layout,
+        width: Width,
+        rs: Register,
+        address: u32,
+    ) -> Result<Effect, Why>
+        ensures { result ≡ Instructions.store_at layout.now width (state_of self.now) rs address }
     {
-        if is_memory(address) {
+        if layout.is_memory(address) {
             let word = self.memory_word(address);
             let value = stored(width, address % 4, word, self.register(rs))?;
             Ok(Effect::Writes(address, value))
@@ -157,31 +177,33 @@ impl Machine {
     /// A load.
     fn load(
         &self,
+        layout: &Layout,
         symbol: Value,
         width: Width,
         rd: Register,
         base: Register,
         offset: u32,
     ) -> Result<Effect, Why>
-        ensures { result ≡ Instructions.loads symbol (state_of self.now) width rd base offset }
+        ensures { result ≡ Instructions.loads layout.now symbol (state_of self.now) width rd base offset }
     {
         let address = self.address(symbol, base, offset)?;
-        self.load_at(width, rd, address)
+        self.load_at(layout, width, rd, address)
     }
 
     /// A store.
     fn store(
         &self,
+        layout: &Layout,
         symbol: Value,
         width: Width,
         rs: Register,
         base: Register,
         offset: u32,
     ) -> Result<Effect, Why>
-        ensures { result ≡ Instructions.stores symbol (state_of self.now) width rs base offset }
+        ensures { result ≡ Instructions.stores layout.now symbol (state_of self.now) width rs base offset }
     {
         let address = self.address(symbol, base, offset)?;
-        self.store_at(width, rs, address)
+        self.store_at(layout, width, rs, address)
     }
 
     /// A product or a quotient.
@@ -194,14 +216,22 @@ impl Machine {
         Ok(Effect::PutsPair(low, high))
     }
 
-    /// The item that a jump goes to.
-    fn target(&self, symbol: Value, to: LinkFrom) -> Result<usize, Why>
-        ensures { result ≡ Instructions.target symbol (state_of self.now) to }
+    /// The code address in the word at an address.
+    fn pointed(&self, address: u32) -> Result<usize, Why>
+        ensures { result ≡ Instructions.pointed (state_of self.now) address }
     {
-        match to {
-            LinkFrom::Symbol => symbol.code(),
-            LinkFrom::Register(register) => self.register(register).code(),
+        if address % 4 == 0 {
+            self.memory_word(address).code()
+        } else {
+            Err(Why::NotCode)
         }
+    }
+
+    /// The code address in the word that a value points to.
+    fn pointed_by(&self, value: Value) -> Result<usize, Why>
+        ensures { result ≡ Instructions.pointed_by (state_of self.now) value }
+    {
+        self.pointed(value.number()?)
     }
 
     /// The program ends, with its status in register 2.
@@ -212,11 +242,10 @@ impl Machine {
         Ok(Effect::Halts((status % 256) as u8))
     }
 
-    /// A jump.
-    fn jumps(&self, program: &Program<'_>, symbol: Value, to: LinkFrom) -> Result<Effect, Why>
-        ensures { result ≡ Instructions.jumps program.now symbol (state_of self.now) to }
+    /// A jump to an item, or to where the first function returns.
+    fn goes(&self, program: &Program<'_>, item: usize) -> Result<Effect, Why>
+        ensures { result ≡ Instructions.goes program.now (state_of self.now) item }
     {
-        let item = self.target(symbol, to)?;
         if item == caller(program) {
             self.ends()
         } else {
@@ -224,25 +253,77 @@ impl Machine {
         }
     }
 
-    /// A call.
-    fn calls(&self, symbol: Value, to: LinkFrom) -> Result<Effect, Why>
-        ensures { result ≡ Instructions.calls symbol (state_of self.now) to }
+    /// A jump by a register that holds the code address of an item.
+    fn goes_by(&self, program: &Program<'_>, register: Register, item: usize) -> Result<Effect, Why>
+        ensures { result ≡ Instructions.goes_by program.now (state_of self.now) register item }
     {
-        Ok(Effect::Calls(self.target(symbol, to)?))
+        if item == caller(program) {
+            self.ends()
+        } else if register.0 == 31 {
+            Ok(Effect::Goes(item))
+        } else {
+            Ok(Effect::GoesBy(register, item))
+        }
+    }
+
+    /// A jump by a register that holds a value.
+    fn jumps_by(
+        &self,
+        program: &Program<'_>,
+        register: Register,
+        value: Value,
+    ) -> Result<Effect, Why>
+        ensures { result ≡ Instructions.jumps_by program.now (state_of self.now) register value }
+    {
+        match value {
+            Value::Code(item) => self.goes_by(program, register, item),
+            _ if register.0 == 31 => Err(Why::NotCode),
+            _ => self.goes(program, self.pointed_by(value)?),
+        }
+    }
+
+    /// A jump.
+    fn jumps(&self, program: &Program<'_>, symbol: Option<u32>, to: LinkFrom) -> Result<Effect, Why>
+        ensures { result ≡ Instructions.jumps program.now symbol (state_of self.now) to }
+    {
+        match to {
+            LinkFrom::Symbol => self.goes(program, target(program, symbol)?),
+            LinkFrom::Register(register) => {
+                self.jumps_by(program, register, self.register(register))
+            }
+        }
+    }
+
+    /// The item that a call goes to.
+    fn called(&self, program: &Program<'_>, symbol: Option<u32>, to: LinkFrom) -> Result<usize, Why>
+        ensures { result ≡ Instructions.called program.now symbol (state_of self.now) to }
+    {
+        match to {
+            LinkFrom::Symbol => target(program, symbol),
+            LinkFrom::Register(register) => self.pointed_by(self.register(register)),
+        }
+    }
+
+    /// A call.
+    fn calls(&self, program: &Program<'_>, symbol: Option<u32>, to: LinkFrom) -> Result<Effect, Why>
+        ensures { result ≡ Instructions.calls program.now symbol (state_of self.now) to }
+    {
+        Ok(Effect::Calls(self.called(program, symbol, to)?))
     }
 
     /// A branch.
     fn compares(
         &self,
-        symbol: Value,
+        program: &Program<'_>,
+        symbol: Option<u32>,
         condition: Condition,
         rs: Register,
         second: Source,
     ) -> Result<Effect, Why>
-        ensures { result ≡ Instructions.compares symbol (state_of self.now) condition rs second }
+        ensures { result ≡ Instructions.compares program.now symbol (state_of self.now) condition rs second }
     {
         let taken = compared(condition, self.register(rs), self.source_value(second))?;
-        branches(symbol, taken)
+        branches(program, symbol, taken)
     }
 
     /// A trap.
@@ -256,14 +337,15 @@ impl Machine {
         }
     }
 
-    /// What an instruction does that names a symbol with this value, or 0.
+    /// What an instruction does that names a symbol, if it does.
     fn effect(
         &self,
         program: &Program<'_>,
-        symbol: Value,
+        layout: &Layout,
+        symbol: Option<u32>,
         instruction: &Instruction,
     ) -> Result<Effect, Why>
-        ensures { result ≡ Instructions.effect program.now symbol (state_of self.now) instruction.now }
+        ensures { result ≡ Instructions.effect program.now layout.now symbol (state_of self.now) instruction.now }
     {
         match *instruction {
             Instruction::Compute { op, rd, rs, second } => {
@@ -278,20 +360,27 @@ impl Machine {
             Instruction::Move { rd, rs } => Ok(Effect::Puts(rd, self.register(rs))),
             Instruction::Number { rd, value } => Ok(Effect::Puts(rd, Value::Number(value))),
             Instruction::Address { rd, base, offset } => {
-                puts(rd, self.address_value(symbol, base, offset))
+                let symbol = symbol_value(program, layout, symbol);
+                puts(rd, number(self.address(symbol, base, offset)))
             }
             Instruction::Load {
                 width,
                 rd,
                 base,
                 offset,
-            } => self.load(symbol, width, rd, base, offset),
+            } => {
+                let symbol = symbol_value(program, layout, symbol);
+                self.load(layout, symbol, width, rd, base, offset)
+            }
             Instruction::Store {
                 width,
                 rs,
                 base,
                 offset,
-            } => self.store(symbol, width, rs, base, offset),
+            } => {
+                let symbol = symbol_value(program, layout, symbol);
+                self.store(layout, symbol, width, rs, base, offset)
+            }
             Instruction::Long { op, rs, rt } => self.multiplies(op, rs, rt),
             Instruction::FromSpecial { special, rd } => {
                 Ok(Effect::Puts(rd, self.special(special)))
@@ -303,9 +392,9 @@ impl Machine {
                 condition,
                 rs,
                 second,
-            } => self.compares(symbol, condition, rs, second),
+            } => self.compares(program, symbol, condition, rs, second),
             Instruction::Jump(to) => self.jumps(program, symbol, to),
-            Instruction::Call(to) => self.calls(symbol, to),
+            Instruction::Call(to) => self.calls(program, symbol, to),
             Instruction::Break(code) => self.breaks(code),
             Instruction::Nop => Ok(Effect::Follows),
         }
@@ -315,17 +404,17 @@ impl Machine {
     pub(crate) fn item_effect(
         &self,
         program: &Program<'_>,
-        end: u32,
+        layout: &Layout,
         item: &Item,
     ) -> Result<Effect, Why>
-        ensures { result ≡ Steps.item_effect program.now end (state_of self.now) (Some item.now) }
+        ensures { result ≡ Steps.item_effect program.now layout.now (state_of self.now) (Some item.now) }
     {
         match item {
             Item::Code {
                 instruction,
                 symbol,
                 ..
-            } => self.effect(program, symbol_value(program, end, *symbol), instruction),
+            } => self.effect(program, layout, *symbol, instruction),
             Item::Label(_) | Item::Location { .. } => Ok(Effect::Follows),
         }
     }

@@ -4,6 +4,7 @@
 mod arithmetic;
 mod data;
 mod effect;
+mod layout;
 mod machine;
 mod parts;
 mod running;
@@ -11,6 +12,7 @@ mod symbols;
 mod value;
 
 pub use effect::Effect;
+pub use layout::{Extent, Layout};
 pub use machine::{Machine, Stepped};
 pub use running::{Ending, run};
 pub use value::{Bytes, Value, Why};

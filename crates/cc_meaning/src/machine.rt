@@ -8,7 +8,8 @@ ghost use Rattle.cc_meaning.specs.Values.{unspecified};
 
 use crate::data::start_memory;
 use crate::effect::{Effect, caller};
-use crate::symbols::symbol_value;
+use crate::layout::Layout;
+use crate::symbols::item_named;
 use crate::value::{UNSPECIFIED, Value, Why};
 use cc_lines::{Register, Special};
 use cc_program::Program;
@@ -69,18 +70,8 @@ fn start_registers(alloc: Global, link: usize) -> Result<Vec<Value>, AllocError>
     Ok(registers)
 }
 
-/// The item of a code address, or this one.
-fn item_of(value: Value, none: usize) -> usize
-    ensures { result ≡ Start.item_of value none }
-{
-    match value {
-        Value::Code(item) => item,
-        _ => none,
-    }
-}
-
 impl Machine {
-    /// A program at its start, where `end` is the first byte after all data, and `symbol` its first function.
+    /// A program at its start, where `symbol` is its first function.
     ///
     /// # Errors
     ///
@@ -88,16 +79,15 @@ impl Machine {
     pub fn new(
         alloc: Global,
         program: &Program<'_>,
-        end: u32,
+        layout: &Layout,
         symbol: u32,
     ) -> Result<Machine, AllocError>
-        ensures { IfOk result (λ machine. state_of machine ≡ Start.start program.now end symbol) }
+        ensures { IfOk result (λ machine. state_of machine ≡ Start.start program.now layout.now symbol) }
     {
-        let first = symbol_value(program, end, Some(symbol));
         let registers = start_registers(alloc, caller(program))?;
-        let memory = start_memory(alloc, program, end)?;
+        let memory = start_memory(alloc, program, layout)?;
         Ok(Machine {
-            next: item_of(first, program.items.len()),
+            next: item_named(program, symbol).unwrap_or(program.items.len()),
             registers,
             low: UNSPECIFIED,
             high: UNSPECIFIED,
@@ -199,6 +189,7 @@ impl Machine {
             Effect::PutsPair(low, high) => self.put_pair(low, high),
             Effect::Writes(address, value) => self.put_word(address, value),
             Effect::Takes(register) => self.take(input, register),
+            Effect::GoesBy(register, _) => self.put(register, UNSPECIFIED),
             Effect::Calls(_) => self.put(Register::LINK, Value::Code(following)),
             Effect::Follows | Effect::Sends(_) | Effect::Goes(_) | Effect::Halts(_) => {}
         }
@@ -225,15 +216,14 @@ impl Machine {
         Stepped::Went(sent(effect))
     }
 
-    /// Executes the item that comes next, with this input, where `end` is the first byte after all data. Where the program ends
-    /// or cannot go on, nothing changes.
-    pub fn step(&mut self, program: &Program<'_>, end: u32, input: &[u8]) -> Stepped
-        ensures { Does (Steps.step program.now end input.now (state_of self.old)) self.old self.new result }
+    /// Executes the item that comes next, with this input. Where the program ends or cannot go on, nothing changes.
+    pub fn step(&mut self, program: &Program<'_>, layout: &Layout, input: &[u8]) -> Stepped
+        ensures { Does (Steps.step program.now layout.now input.now (state_of self.old)) self.old self.new result }
     {
         let Some(item) = program.items.get(self.next) else {
             return Stepped::Stuck(Why::NoItem);
         };
-        match self.item_effect(program, end, item) {
+        match self.item_effect(program, layout, item) {
             Ok(effect) => self.apply(input, &effect, self.next + 1),
             Err(why) => Stepped::Stuck(why),
         }
@@ -245,7 +235,7 @@ fn next_item(effect: &Effect, following: usize) -> usize
     ensures { result ≡ States.next_item effect.now following }
 {
     match *effect {
-        Effect::Goes(item) | Effect::Calls(item) => item,
+        Effect::Goes(item) | Effect::GoesBy(_, item) | Effect::Calls(item) => item,
         _ => following,
     }
 }

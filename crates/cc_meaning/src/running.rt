@@ -3,6 +3,7 @@ ghost use Rattle.std.specs.Prelude.{◌≡◌, ◌++◌, IfOk, OnOk, option_to_l
 ghost use Rattle.cc_meaning.specs.Machines.{state_of};
 ghost use Rattle.cc_meaning.specs.Runs;
 
+use crate::layout::Layout;
 use crate::machine::{Machine, Stepped};
 use crate::value::Why;
 use cc_program::Program;
@@ -28,8 +29,7 @@ fn push_sent(console: &mut Vec<u8>, sent: Option<u8>) -> Result<(), AllocError>
     Ok(())
 }
 
-/// Executes at most so many items, and adds to the console what they send. With this input, where `end` is the first byte after
-/// all data.
+/// Executes at most so many items, and adds to the console what they send. With this input.
 ///
 /// # Errors
 ///
@@ -37,16 +37,16 @@ fn push_sent(console: &mut Vec<u8>, sent: Option<u8>) -> Result<(), AllocError>
 pub fn run(
     machine: &mut Machine,
     program: &Program<'_>,
-    end: u32,
+    layout: &Layout,
     input: &[u8],
     steps: u64,
     console: &mut Vec<u8>,
 ) -> Result<Ending, AllocError>
     ensures { IfOk result (λ ending. record { state = state_of machine.new; console = console.new.items; ending = ending }
-        ≡ Runs.run_for program.now end input.now steps (state_of machine.old) console.old.items) }
+        ≡ Runs.run_for program.now layout.now input.now steps (state_of machine.old) console.old.items) }
 {
     for _done in 0..steps {
-        match machine.step(program, end, input) {
+        match machine.step(program, layout, input) {
             Stepped::Went(sent) => push_sent(console, sent)?,
             Stepped::Halted(status) => return Ok(Ending::Halted(status)),
             Stepped::Stuck(why) => return Ok(Ending::Stuck(why)),

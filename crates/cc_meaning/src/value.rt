@@ -15,7 +15,7 @@ pub struct Bytes {
 #[derive(Clone, Copy, Debug, PartialEq, Eq)]
 pub enum Value {
     Number(u32),
-    /// The address of the item with this number.
+    /// The address of the item with this number: a return address, or a label in a jump table.
     Code(usize),
     /// A word of which some bytes are not specified, or all.
     Partial(Bytes),
@@ -26,7 +26,7 @@ pub enum Value {
 pub enum Why {
     /// There is no instruction.
     NoItem,
-    /// It computes with a code address, or compares it with a number that could be one.
+    /// It computes with a code address, or compares one.
     CodeOperand,
     /// It loads or stores a part of a code address.
     CodeByte,
@@ -92,18 +92,6 @@ impl Value {
         match self {
             Value::Code(item) => Ok(item),
             _ => Err(Why::NotCode),
-        }
-    }
-
-    /// It and a number: of a code address 0 alone may be added.
-    pub(crate) fn plus(self, number: u32) -> Result<Value, Why>
-        ensures { result ≡ Values.plus self number }
-    {
-        match self {
-            Value::Number(own) => Ok(Value::Number(own.wrapping_add(number))),
-            Value::Code(_) if number == 0 => Ok(self),
-            Value::Code(_) => Err(Why::CodeOperand),
-            Value::Partial(_) => Err(Why::Unspecified),
         }
     }
 }

@@ -1,8 +1,9 @@
 //! Execution of a program.
 ghost use Rattle.std.specs.Prelude.{◌≡◌, ◌++◌, OnOk, IfOk};
+ghost use Rattle.cc_meaning.specs.Layouts.{layout_of};
 ghost use Rattle.cc_meaning.specs.Runs.{meaning};
 
-use cc_meaning::{Ending, Machine, run};
+use cc_meaning::{Ending, Layout, Machine, run};
 use cc_program::Program;
 use mx_io::{Sink, SinkFault, put_all};
 use std::alloc::{AllocError, Global};
@@ -38,12 +39,13 @@ fn run_from_start(
     input: &[u8],
     steps: u64,
 ) -> Result<Ran, AllocError>
-    ensures console { IfOk result (λ r. r.console.items ≡ (meaning program.now end symbol input.now steps).console) }
-    ensures ending { IfOk result (λ r. r.executed.ending ≡ (meaning program.now end symbol input.now steps).ending) }
+    ensures console { IfOk result (λ r. r.console.items ≡ (meaning program.now (layout_of program.now end end) symbol input.now steps).console) }
+    ensures ending { IfOk result (λ r. r.executed.ending ≡ (meaning program.now (layout_of program.now end end) symbol input.now steps).ending) }
 {
-    let mut machine = Machine::new(alloc, program, end, symbol)?;
+    let layout = Layout::of(program, end, end);
+    let mut machine = Machine::new(alloc, program, &layout, symbol)?;
     let mut console = Vec::new(alloc);
-    let ending = run(&mut machine, program, end, input, steps, &mut console)?;
+    let ending = run(&mut machine, program, &layout, input, steps, &mut console)?;
     let item = machine.next();
     Ok(Ran {
         executed: Executed { ending, item },
@@ -62,8 +64,8 @@ pub fn execute<W: Sink>(
     steps: u64,
     out: &mut W,
 ) -> Result<Executed, Fault>
-    ensures printed { OnOk result (W.written out.new ≡ W.written out.old ++ (meaning program.now end symbol input.now steps).console) }
-    ensures ending { IfOk result (λ r. r.ending ≡ (meaning program.now end symbol input.now steps).ending) }
+    ensures printed { OnOk result (W.written out.new ≡ W.written out.old ++ (meaning program.now (layout_of program.now end end) symbol input.now steps).console) }
+    ensures ending { IfOk result (λ r. r.ending ≡ (meaning program.now (layout_of program.now end end) symbol input.now steps).ending) }
 {
     let Ok(ran) = run_from_start(alloc, program, end, symbol, input, steps) else {
         return Err(Fault::Memory);

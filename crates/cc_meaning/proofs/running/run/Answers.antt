@@ -12,8 +12,8 @@ loop-done-preserved c =
     let n = c.args.steps - (c.loop-done._done + 1) in
     let d = c.step.ensures in
     let went = sym c.in-Went.is ∙ d.answer in
-    ap (λ (k : List ℕ). run_for p c.args.end c.args.input.now n (state_of c.step.new.self) k) c.in_ok-push_sent-in-Went.ensures
-    ∙ sym (one_more p c.args.end c.args.input.now n left _ _ _ (Went c.in-Went.sent) (omega arith) d.state went)
+    ap (λ (k : List ℕ). run_for p c.args.layout.now c.args.input.now n (state_of c.step.new.self) k) c.in_ok-push_sent-in-Went.ensures
+    ∙ sym (one_more p c.args.layout.now c.args.input.now n left _ _ _ (Went c.in-Went.sent) (omega arith) d.state went)
     ∙ c.loop-done.invariant
 
 pub returns-in-Halted : goal.returns-in-Halted
@@ -22,7 +22,7 @@ returns-in-Halted c =
     let n = c.args.steps - (c.loop-done._done + 1) in
     let d = c.step.ensures in
     let halted = sym c.in-Halted.is ∙ d.answer in
-    sym (one_more c.args.program.now c.args.end c.args.input.now n left _ _ _ (Halted c.in-Halted.status) (omega arith) d.state halted)
+    sym (one_more c.args.program.now c.args.layout.now c.args.input.now n left _ _ _ (Halted c.in-Halted.status) (omega arith) d.state halted)
     ∙ c.loop-done.invariant
 
 pub returns-in-Stuck : goal.returns-in-Stuck
@@ -31,5 +31,5 @@ returns-in-Stuck c =
     let n = c.args.steps - (c.loop-done._done + 1) in
     let d = c.step.ensures in
     let stuck = sym c.in-Stuck.is ∙ d.answer in
-    sym (one_more c.args.program.now c.args.end c.args.input.now n left _ _ _ (Stuck c.in-Stuck.why) (omega arith) d.state stuck)
+    sym (one_more c.args.program.now c.args.layout.now c.args.input.now n left _ _ _ (Stuck c.in-Stuck.why) (omega arith) d.state stuck)
     ∙ c.loop-done.invariant
