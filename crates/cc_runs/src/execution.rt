@@ -64,7 +64,8 @@ pub fn execute<W: Sink>(
     steps: u64,
     out: &mut W,
 ) -> Result<Executed, Fault>
-    ensures printed { OnOk result (W.written out.new ≡ W.written out.old ++ (meaning program.now (layout_of program.now end end) symbol input.now steps).console) }
+    ensures printed { OnOk result (W.written out.new
+        ≡ W.written out.old ++ (meaning program.now (layout_of program.now end end) symbol input.now steps).console) }
     ensures ending { IfOk result (λ r. r.ending ≡ (meaning program.now (layout_of program.now end end) symbol input.now steps).ending) }
 {
     let Ok(ran) = run_from_start(alloc, program, end, symbol, input, steps) else {

@@ -66,7 +66,7 @@ run_counted p requests (suc n) = along (sym (next_state p requests n))
 
 -- a turn takes a cycle at least
 turns_few : (code : Code) (input : Option (List ℕ)) (m : MachineState) (request : Bool) →
-  length (cycled resident code input m request).past ≤ suc (length m.past)
+    length (cycled resident code input m request).past ≤ suc (length m.past)
 turns_few code input m request = ⊎_elim
     (λ h. of_length (cycled_halted resident code input m request h) (omega arith))
     (λ h. ⊎_elim

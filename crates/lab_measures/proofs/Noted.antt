@@ -95,7 +95,8 @@ module _ (s : Signals) (n : ℕ) where
   turned (Entered e) taken stalled alu t q a h = (let w = h.0 in omega arith, h.1)
 
 pub one_cycle : (s : Signals) (n : ℕ) (p : Progress) (request taken stalled : Bool) (alu : Stage) → request ≡ s.asked n → taken ≡ s.taken n
-    → stalled ≡ s.stalled n → (taken ≡ true → alu ≡ s.alu n) → Reached s n n p → Reached s (suc n) (suc n) (after_turn n taken stalled alu (after_request request p))
+    → stalled ≡ s.stalled n → (taken ≡ true → alu ≡ s.alu n) → Reached s n n p
+    → Reached s (suc n) (suc n) (after_turn n taken stalled alu (after_request request p))
 one_cycle s n p request taken stalled alu comes t q a h = turned s n (after_request request p) taken stalled alu t q a (asked s n p request comes h)
 
 closed_turn : (s : Signals) (m n : ℕ) (p : Progress) → is_open p ≡ false → Reached s m n p → Reached s m (suc n) p

@@ -21,7 +21,8 @@ after_request request progress = cond request Waiting progress
 abbrev pub after_turn : ℕ → Bool → Bool → Stage → Progress → Progress
 after_turn cycle taken stalled alu Idle = Idle
 after_turn cycle taken stalled alu Waiting = cond taken (Taken cycle alu) Waiting
-after_turn cycle taken stalled alu (Taken before killed) = cond stalled (Taken before killed) (Entered (record { taken = before; fetched = cycle; killed = killed }))
+after_turn cycle taken stalled alu (Taken before killed) = cond stalled (Taken before killed)
+    (Entered (record { taken = before; fetched = cycle; killed = killed }))
 after_turn cycle taken stalled alu (Entered e) = Entered e
 
 -- the last request waits for its interrupt, or that for the handler
