@@ -1,1 +1,5 @@
+mod Divisions
+mod Learning
+mod Placing
+mod Sets
 pub mod Zeros

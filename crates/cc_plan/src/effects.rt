@@ -1,5 +1,7 @@
 //! Which registers instructions read and write, as sets: a bit each, with LO as 32 and HI as 33.
-ghost use Rattle.std.specs.Prelude.{◌≡◌, ◌^◌, ◌<◌};
+ghost use Rattle.std.specs.Prelude.{◌≡◌, ◌^◌, ◌<◌, ℕ, true};
+ghost use Rattle.cc_plan.specs.Knowing.{has};
+ghost use Rattle.cc_plan.specs.Translated.{is_written};
 
 use cc_lines::{Instruction, LinkFrom, Operation, Register, Source, Special, Width};
 
@@ -29,7 +31,9 @@ pub fn bit(number: u8) -> u64
 }
 
 /// The set of a register.
-pub(crate) fn of(register: Register) -> u64 {
+pub(crate) fn of(register: Register) -> u64
+    ensures { register.0 < 64 → result ≡ 2 ^ register.0 }
+{
     bit(register.0)
 }
 
@@ -95,7 +99,10 @@ pub(crate) fn reads(instruction: &Instruction) -> u64 {
 }
 
 /// What an instruction writes.
-pub(crate) fn writes(instruction: &Instruction) -> u64 {
+#[tactic(auto, using(crate::proofs::Sets::has_itself, crate::proofs::Sets::has_changed))]
+pub(crate) fn writes(instruction: &Instruction) -> u64
+    ensures { (n : ℕ) → n < 32 → is_written instruction.now n ≡ true → has result n ≡ true }
+{
     match *instruction {
         Instruction::Compute { rd, .. }
         | Instruction::Shift { rd, .. }

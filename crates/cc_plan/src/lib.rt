@@ -4,6 +4,7 @@
 
 mod effects;
 mod fusing;
+mod knowledge;
 mod liveness;
 mod places;
 mod plan;
@@ -11,6 +12,6 @@ mod planning;
 
 pub use effects::{HI, bit};
 pub use fusing::tested_by;
-pub use places::{FRAME_WORDS, STACK_WORDS};
+pub use knowledge::{FRAME_WORDS, STACK_WORDS};
 pub use plan::{Comparison, Place, Plan, Planned, Step};
 pub use planning::plans_of;

@@ -1,4 +1,6 @@
 //! Which registers are read behind each item of a function.
+ghost use Rattle.std.specs.Prelude.{◌≡◌};
+ghost use Rattle.cc_plan.specs.Placed.{names_place};
 
 use crate::effects::{ALL, ARGUMENTS, RETURNED, kills, reads};
 use crate::plan::Plan;
@@ -29,7 +31,9 @@ fn at_call(symbols: &Symbols, symbol: Option<u32>) -> u64 {
 }
 
 /// Whether a call to a symbol is one to a label of the function.
-pub(crate) fn calls_label(symbols: &Symbols, symbol: Option<u32>) -> bool {
+pub(crate) fn calls_label(symbols: &Symbols, symbol: Option<u32>) -> bool
+    ensures { result ≡ names_place symbols.now.list.items symbol }
+{
     match symbol {
         Some(symbol) => matches!(symbols.meaning(symbol), Meaning::Place { .. }),
         None => false,

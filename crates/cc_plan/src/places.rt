@@ -1,48 +1,17 @@
-//! Where data are, with each pointer divided by 4 once as long as it is known.
+//! Where data are.
+ghost use Rattle.std.specs.Prelude.{◌≡◌, ℕ, true, option_map, Some};
+ghost use Rattle.cc_plan.specs.Places.{Words, IsDivided, divided, is_read, sum};
+ghost use Rattle.cc_plan.specs.Knowing.{Holds};
+ghost use Rattle.cc_plan.specs.Translated.{Goes, reads_named};
+ghost use Rattle.cc_plan.specs.Placed.{ArePlaced, Either, HasPlace, Passes, Performs, PlacesDatum, PlacesItem};
+ghost use Rattle.cc_plan.specs.Placed.{based, is_entry, is_translated, leaves, symbol_address};
 
-use crate::effects::{HI, bit, of, writes};
+use crate::knowledge::{Knowledge, far};
 use crate::liveness::calls_label;
-use crate::plan::{Place, Plan, Step};
-use cc_lines::{Instruction, LinkFrom, Long, Operation, Register, Source, Width};
+use crate::plan::{Plan, Step};
+use cc_lines::{Instruction, LinkFrom, Register, Width};
 use cc_program::{Function, Item, Meaning, Program};
-use cc_rules::{byte_of, in_reach, is_last, quarter};
-
-/// The register with the stack pointer / 4.
-pub const STACK_WORDS: u8 = 28;
-
-/// The register with the frame pointer / 4, in functions that have one.
-pub const FRAME_WORDS: u8 = 23;
-
-/// The registers that take quotients of pointers in any function.
-const FIRST_QUOTIENT: u8 = 22;
-
-const SECOND_QUOTIENT: u8 = 27;
-
-/// The registers that take quotients of pointers: the last one only in functions without a frame pointer.
-static QUOTIENTS: [u8; 3] = [FIRST_QUOTIENT, SECOND_QUOTIENT, FRAME_WORDS];
-
-/// What is known of a register.
-#[derive(Clone, Copy)]
-enum Known {
-    Nothing,
-    /// It holds this number.
-    Number(u32),
-    /// It holds so many bytes more than four times what another register holds; or, where that is not `whole`, a quarter of it is so
-    /// many bytes, a multiple of 4, from what the other one holds.
-    Bytes { base: u8, bytes: u32, whole: bool },
-}
-
-/// What is known between two statements.
-#[derive(Clone, Copy)]
-struct Knowledge {
-    known: [Known; 32],
-    /// Which of the registers for quotients is next.
-    turn: u8,
-    /// Whether register 30 is the frame pointer.
-    points: bool,
-    /// Whether the addresses of labels are values, by which jumps go.
-    computes: bool,
-}
+use cc_rules::is_last;
 
 /// Where the datum of an instruction is told to be: at an offset from a base.
 #[derive(Clone, Copy)]
@@ -53,319 +22,10 @@ struct Datum {
     unaligned: bool,
 }
 
-/// The place of what is too far from all that is known: so many bytes from a register.
-fn far(base: Register, bytes: u32) -> Place {
-    Place::Far {
-        base: base.0,
-        bytes,
-    }
-}
-
-/// The byte of this number in a word that is so many words from four times what the register `base` holds, where a statement
-/// reaches that word.
-fn byte_in_reach(words: u32, base: u8, number: u32) -> Option<Place> {
-    if in_reach(words) {
-        Some(Place::Byte {
-            base,
-            words,
-            byte: byte_of(number),
-        })
-    } else {
-        None
-    }
-}
-
-/// The place at an offset from a base that holds a number.
-fn place_at_number(base: Register, value: u32, offset: u32) -> Place {
-    let address = value.wrapping_add(offset);
-    byte_in_reach(quarter(address), 0, address).unwrap_or(far(base, offset))
-}
-
-/// The place at an offset from a base that is so many bytes from four times what the register `from` holds.
-fn place_of_byte(base: Register, from: u8, bytes: u32, offset: u32) -> Place {
-    let number = bytes.wrapping_add(offset);
-    byte_in_reach(quarter(number), from, number).unwrap_or(far(base, offset))
-}
-
-/// The same from a base of which only a quarter is known to be there.
-fn place_of_word(base: Register, from: u8, bytes: u32, offset: u32) -> Place {
-    let words = quarter(bytes.wrapping_add(offset));
-    if in_reach(words) && offset % 4 == 0 {
-        Place::Turned {
-            base: from,
-            words,
-            by: base.0,
-        }
-    } else {
-        far(base, offset)
-    }
-}
-
-impl Knowledge {
-    /// What is known at the start of a function.
-    fn new(points: bool, computes: bool) -> Knowledge {
-        Knowledge {
-            known: [Known::Nothing; 32],
-            turn: 0,
-            points,
-            computes,
-        }
-    }
-
-    /// Forgets what is known of all registers, where control may come from anywhere.
-    fn forget_all(&mut self) {
-        self.known = [Known::Nothing; 32];
-    }
-
-    /// The register that holds a quarter of what another one always holds.
-    fn always_divided(&self, register: Register) -> Option<u8> {
-        match register {
-            Register::STACK => Some(STACK_WORDS),
-            Register::FRAME if self.points => Some(FRAME_WORDS),
-            _ => None,
-        }
-    }
-
-    /// What is known of a register.
-    fn of(&self, register: Register) -> Known {
-        if register == Register::ZERO {
-            return Known::Number(0);
-        }
-        match self.always_divided(register) {
-            Some(base) => Known::Bytes {
-                base,
-                bytes: 0,
-                whole: true,
-            },
-            None => self
-                .known
-                .as_slice()
-                .get(usize::from(register.0))
-                .copied()
-                .unwrap_or(Known::Nothing),
-        }
-    }
-
-    /// Notes what is known of a register.
-    fn note(&mut self, register: Register, known: Known) {
-        if let Some(place) = self.known.as_mut_slice().get_mut(usize::from(register.0)) {
-            *place = known;
-        }
-    }
-
-    /// Forgets what is known by way of a register that changes.
-    fn forget_base(&mut self, changed: u8) {
-        for known in self.known.iter_mut() {
-            if let Known::Bytes { base, .. } = *known {
-                if base == changed {
-                    *known = Known::Nothing;
-                }
-            }
-        }
-    }
-
-    /// Forgets the registers of a set.
-    fn forget(&mut self, set: u64) {
-        for (number, known) in self.known.iter_mut().enumerate() {
-            let number = u8::try_from(number).unwrap_or(0);
-            if set & bit(number) != 0 {
-                *known = Known::Nothing;
-            }
-        }
-    }
-
-    /// The register that takes the next quotient.
-    fn next_quotient(&mut self) -> u8 {
-        let count = if self.points { 2 } else { 3 };
-        let turn = self.turn % count;
-        self.turn = (turn + 1) % count;
-        let register = QUOTIENTS
-            .as_slice()
-            .get(usize::from(turn))
-            .copied()
-            .unwrap_or(FIRST_QUOTIENT);
-        self.forget_base(register);
-        register
-    }
-
-    /// Where the datum at an offset from a base is of which nothing is known, and the division that is needed before.
-    fn place_by_quotient(&mut self, base: Register, offset: u32) -> (Place, Option<(u8, u8)>) {
-        let words = quarter(offset);
-        if offset % 4 != 0 || !in_reach(words) {
-            return (far(base, offset), None);
-        }
-        let into = self.next_quotient();
-        let known = Known::Bytes {
-            base: into,
-            bytes: 0,
-            whole: false,
-        };
-        self.note(base, known);
-        let place = Place::Turned {
-            base: into,
-            words,
-            by: base.0,
-        };
-        (place, Some((base.0, into)))
-    }
-
-    /// Where the datum at an offset from a base is, and the division that is needed before.
-    fn place(&mut self, base: Register, offset: u32) -> (Place, Option<(u8, u8)>) {
-        match self.of(base) {
-            Known::Number(value) => (place_at_number(base, value, offset), None),
-            Known::Bytes {
-                base: from,
-                bytes,
-                whole: true,
-            } => (place_of_byte(base, from, bytes, offset), None),
-            Known::Bytes {
-                base: from,
-                bytes,
-                whole: false,
-            } => (place_of_word(base, from, bytes, offset), None),
-            Known::Nothing => self.place_by_quotient(base, offset),
-        }
-    }
-
-    /// What is known of the sum of a register and a number.
-    fn sum(&self, rs: Register, number: u32) -> Known {
-        match self.of(rs) {
-            Known::Number(value) => Known::Number(value.wrapping_add(number)),
-            Known::Bytes { base, bytes, whole } if whole || number % 4 == 0 => Known::Bytes {
-                base,
-                bytes: bytes.wrapping_add(number),
-                whole,
-            },
-            _ => Known::Nothing,
-        }
-    }
-
-    /// What is known of the sum of two registers.
-    fn sum_of(&self, rs: Register, rt: Register) -> Known {
-        if let Known::Number(value) = self.of(rs) {
-            return self.sum(rt, value);
-        }
-        match self.of(rt) {
-            Known::Number(value) => self.sum(rs, value),
-            _ => Known::Nothing,
-        }
-    }
-
-    /// What is known of a register with more bits set.
-    fn with_bits(&self, rs: Register, bits: u32) -> Known {
-        match self.of(rs) {
-            Known::Number(value) => Known::Number(value | bits),
-            _ => Known::Nothing,
-        }
-    }
-
-    /// What is known of what an operation makes of a register and a second operand.
-    fn computed_from(&self, op: Operation, rs: Register, second: Source) -> Known {
-        match (op, second) {
-            (Operation::Add, Source::Number(number)) => self.sum(rs, number),
-            (Operation::Sub, Source::Number(number)) => self.sum(rs, number.wrapping_neg()),
-            (Operation::Add, Source::Register(rt)) => self.sum_of(rs, rt),
-            (Operation::Or, Source::Number(bits)) => self.with_bits(rs, bits),
-            (Operation::Or, Source::Register(Register(0))) => self.of(rs),
-            _ => Known::Nothing,
-        }
-    }
-
-    /// What is known of what an instruction computes.
-    fn computed(&self, instruction: &Instruction, address: Option<u32>) -> Known {
-        match *instruction {
-            Instruction::Number { value, .. } => Known::Number(value),
-            Instruction::Address { base, offset, .. } => match address {
-                Some(address) => self.sum(base, address.wrapping_add(offset)),
-                None => Known::Nothing,
-            },
-            Instruction::Move { rs, .. } => self.of(rs),
-            Instruction::Compute { op, rs, second, .. } => self.computed_from(op, rs, second),
-            _ => Known::Nothing,
-        }
-    }
-
-    /// Forgets what is known by way of registers that the translation of an instruction uses for something else.
-    fn forget_clobbered(&mut self, clobbered: &[u8]) {
-        for register in clobbered {
-            if !(*register == FRAME_WORDS && self.points) {
-                self.forget_base(*register);
-            }
-        }
-    }
-
-    /// Forgets what is known of registers that are written, and by way of their quarters.
-    fn forget_written(&mut self, written: u64) {
-        self.forget(written);
-        if written & of(Register::STACK) != 0 {
-            self.forget_base(STACK_WORDS);
-        }
-        if self.points && written & of(Register::FRAME) != 0 {
-            self.forget_base(FRAME_WORDS);
-        }
-    }
-
-    /// Learns what an instruction does.
-    fn learn(&mut self, instruction: &Instruction, plan: &Plan, address: Option<u32>) {
-        let known = self.computed(instruction, address);
-        self.forget_clobbered(clobbered(instruction, plan));
-        self.forget_written(writes(instruction));
-        match target(instruction) {
-            Some(rd) if rd != Register::STACK && rd != Register::ZERO => self.note(rd, known),
-            _ => {}
-        }
-    }
-}
-
-/// The register that an instruction computes.
-fn target(instruction: &Instruction) -> Option<Register> {
-    match *instruction {
-        Instruction::Number { rd, .. }
-        | Instruction::Address { rd, .. }
-        | Instruction::Move { rd, .. }
-        | Instruction::Compute { rd, .. } => Some(rd),
-        _ => None,
-    }
-}
-
-/// Registers that statements use between their words.
-static MOST_SCRATCH: [u8; 2] = [FIRST_QUOTIENT, SECOND_QUOTIENT];
-
-static SCRATCH: [u8; 1] = [SECOND_QUOTIENT];
-
-/// Whether a load or a store is of a far datum.
-fn is_far(plan: &Plan) -> bool {
-    matches!(plan.place, Some(Place::Far { .. }))
-}
-
-/// The registers of quotients that the translation of an instruction uses for something else.
-fn clobbered(instruction: &Instruction, plan: &Plan) -> &'static [u8] {
-    match *instruction {
-        Instruction::Load {
-            width: Width::Left | Width::Right,
-            ..
-        }
-        | Instruction::Store {
-            width: Width::Left | Width::Right,
-            ..
-        } => &MOST_SCRATCH,
-        Instruction::Load { .. } | Instruction::Store { .. } if is_far(plan) => &SCRATCH,
-        Instruction::Long {
-            op: Long::Product { .. },
-            ..
-        } if plan.live & bit(HI) != 0 => &MOST_SCRATCH,
-        Instruction::Long { .. }
-        | Instruction::Shift {
-            by: Source::Register(_),
-            ..
-        } => &SCRATCH,
-        Instruction::Call(_) => &QUOTIENTS,
-        _ => &[],
-    }
-}
-
 /// The address of the symbol of a statement: 0 where it has none, and none where it is not known yet.
-fn address_of(program: &Program, symbol: Option<u32>) -> Option<u32> {
+fn address_of(program: &Program, symbol: Option<u32>) -> Option<u32>
+    ensures { result ≡ symbol_address program.now symbol }
+{
     match symbol {
         None => Some(0),
         Some(symbol) => match program.symbols.meaning(symbol) {
@@ -381,9 +41,11 @@ fn is_unaligned(width: Width) -> bool {
 }
 
 /// Where the datum of an instruction is told to be, if it has one.
-fn datum_of(instruction: &Instruction, computes: bool) -> Option<Datum> {
+fn datum_of(instruction: &Instruction, computes: bool) -> Option<Datum>
+    ensures { option_map (λ d. (d.base.0, d.offset)) result ≡ based computes instruction.now }
+{
     match *instruction {
-        Instruction::Jump(LinkFrom::Register(base)) if computes && base != Register::LINK => {
+        Instruction::Jump(LinkFrom::Register(base)) if computes && base.0 != Register::LINK.0 => {
             Some(Datum {
                 base,
                 offset: 0,
@@ -416,14 +78,76 @@ fn datum_of(instruction: &Instruction, computes: bool) -> Option<Datum> {
 }
 
 /// Finds where a datum is, behind an address.
-fn place_datum(knowledge: &mut Knowledge, datum: Datum, address: u32, plan: &mut Plan) {
+fn place_datum(knowledge: &mut Knowledge, datum: Datum, address: u32, plan: &mut Plan)
+    ensures place { (words : Words) → Holds knowledge.old words → is_read datum.base.0 ≡ true
+        → HasPlace (divided words plan.new.divided) plan.new (sum (words datum.base.0) (sum datum.offset address)) }
+    ensures known { (words : Words) → Holds knowledge.old words → is_read datum.base.0 ≡ true
+        → Holds knowledge.new (divided words plan.new.divided) }
+    ensures points { knowledge.new.points ≡ knowledge.old.points }
+    ensures computes { knowledge.new.computes ≡ knowledge.old.computes }
+    ensures step { plan.new.step ≡ plan.old.step }
+{
     let offset = datum.offset.wrapping_add(address);
     if datum.unaligned {
         plan.place = Some(far(datum.base, offset));
+        plan.divided = None;
     } else {
         let (place, divided) = knowledge.place(datum.base, offset);
         plan.place = Some(place);
         plan.divided = divided;
+    }
+}
+
+/// Whether control goes on elsewhere behind an instruction, or comes back with any registers, as from a label of its function.
+fn leaves(program: &Program, instruction: &Instruction, symbol: Option<u32>) -> bool
+    ensures { result ≡ leaves program.now instruction.now symbol }
+{
+    match instruction {
+        Instruction::Call(_) => calls_label(&program.symbols, symbol),
+        _ => is_last(instruction),
+    }
+}
+
+/// Finds where the datum of an instruction is, if it has one, where this is the address of its symbol.
+fn place_instruction(
+    knowledge: &mut Knowledge,
+    instruction: &Instruction,
+    address: Option<u32>,
+    plan: &mut Plan,
+)
+    ensures place { (words : Words) (base offset a : ℕ) → Holds knowledge.old words
+        → based knowledge.old.computes instruction.now ≡ Some (base, offset) → address ≡ Some a → is_read base ≡ true
+        → HasPlace (divided words plan.new.divided) plan.new (sum (words base) (sum offset a)) }
+    ensures known { (words : Words) → Holds knowledge.old words → reads_named instruction.now ≡ true
+        → Holds knowledge.new (divided words plan.new.divided) }
+    ensures points { knowledge.new.points ≡ knowledge.old.points }
+    ensures computes { knowledge.new.computes ≡ knowledge.old.computes }
+    ensures step { plan.new.step ≡ plan.old.step }
+{
+    match datum_of(instruction, knowledge.computes) {
+        Some(datum) => place_datum(knowledge, datum, address.unwrap_or(0), plan),
+        None => plan.divided = None,
+    }
+}
+
+/// Learns what an instruction does.
+fn learn_instruction(
+    program: &Program,
+    knowledge: &mut Knowledge,
+    instruction: &Instruction,
+    symbol: Option<u32>,
+    plan: &Plan,
+)
+    ensures known { (before after : Words) → Holds knowledge.old before → reads_named instruction.now ≡ true
+        → Either (leaves program.now instruction.now symbol) (IsDivided knowledge.old.points after)
+        (Goes knowledge.old.points (symbol_address program.now symbol) instruction.now plan.now before after) → Holds knowledge.new after }
+    ensures points { knowledge.new.points ≡ knowledge.old.points }
+    ensures computes { knowledge.new.computes ≡ knowledge.old.computes }
+{
+    if leaves(program, instruction, symbol) {
+        knowledge.forget_all();
+    } else {
+        knowledge.learn(instruction, plan, address_of(program, symbol));
     }
 }
 
@@ -434,47 +158,64 @@ fn place_one(
     instruction: &Instruction,
     symbol: Option<u32>,
     plan: &mut Plan,
-) {
-    let address = address_of(program, symbol);
-    if let Some(datum) = datum_of(instruction, knowledge.computes) {
-        place_datum(knowledge, datum, address.unwrap_or(0), plan);
-    }
-    knowledge.learn(instruction, plan, address);
-    if is_last(instruction) || is_local_call(program, instruction, symbol) {
-        knowledge.forget_all();
-    }
-}
-
-/// Whether an instruction calls a label of its function, which may change any register.
-fn is_local_call(program: &Program, instruction: &Instruction, symbol: Option<u32>) -> bool {
-    matches!(instruction, Instruction::Call(_)) && calls_label(&program.symbols, symbol)
-}
-
-/// Whether a plan leaves its statement out.
-fn is_gone(plan: &Plan) -> bool {
-    matches!(plan.step, Step::Gone)
+)
+    ensures place { (words : Words) → Holds knowledge.old words
+        → PlacesDatum program.now knowledge.old.computes words instruction.now symbol plan.new }
+    ensures known { (before after : Words) → Holds knowledge.old before → reads_named instruction.now ≡ true
+        → Either (leaves program.now instruction.now symbol) (IsDivided knowledge.old.points after)
+        (Goes knowledge.old.points (symbol_address program.now symbol) instruction.now plan.new (divided before plan.new.divided) after)
+        → Holds knowledge.new after }
+    ensures points { knowledge.new.points ≡ knowledge.old.points }
+    ensures computes { knowledge.new.computes ≡ knowledge.old.computes }
+    ensures step { plan.new.step ≡ plan.old.step }
+{
+    place_instruction(knowledge, instruction, address_of(program, symbol), plan);
+    learn_instruction(program, knowledge, instruction, symbol, plan);
 }
 
 /// Finds where the datum of an item is, if it has one.
-fn place_item(program: &Program, knowledge: &mut Knowledge, item: &Item, plan: &mut Plan) {
+fn place_item(program: &Program, knowledge: &mut Knowledge, item: &Item, plan: &mut Plan)
+    ensures place { (words : Words) → Holds knowledge.old words → PlacesItem program.now knowledge.old.computes words item.now plan.new }
+    ensures known { (before after : Words) → Holds knowledge.old before
+        → Passes program.now knowledge.old.points item.now plan.new before after → Holds knowledge.new after }
+    ensures entry { (after : Words) → is_entry program.now item.now ≡ true → IsDivided knowledge.old.points after → Holds knowledge.new after }
+    ensures points { knowledge.new.points ≡ knowledge.old.points }
+    ensures computes { knowledge.new.computes ≡ knowledge.old.computes }
+{
     match item {
-        Item::Label(label) if program.symbols.is_used(*label) => knowledge.forget_all(),
+        Item::Label(label) => {
+            if program.symbols.is_used(*label) {
+                knowledge.forget_all();
+            }
+        }
+        Item::Location { .. } => {}
         Item::Code {
             instruction,
             symbol,
             ..
-        } if !is_gone(plan) => {
-            place_one(program, knowledge, instruction, *symbol, plan);
-            forget_split(knowledge, plan);
-        }
-        _ => {}
+        } => place_step(program, knowledge, instruction, *symbol, plan),
     }
 }
 
-/// Forgets the register that a branch gives what it found.
-fn forget_split(knowledge: &mut Knowledge, plan: &Plan) {
-    if let Step::Split { into, .. } = plan.step {
-        knowledge.forget(of(into));
+/// Finds where the datum of an instruction is, unless the plan leaves it out. A branch that gives a register what it found has none.
+fn place_step(
+    program: &Program,
+    knowledge: &mut Knowledge,
+    instruction: &Instruction,
+    symbol: Option<u32>,
+    plan: &mut Plan,
+)
+    ensures place { (words : Words) → Holds knowledge.old words → is_translated plan.new.step ≡ true
+        → PlacesDatum program.now knowledge.old.computes words instruction.now symbol plan.new }
+    ensures known { (before after : Words) → Holds knowledge.old before → reads_named instruction.now ≡ true
+        → Performs program.now knowledge.old.points instruction.now symbol plan.new plan.new.step before after → Holds knowledge.new after }
+    ensures points { knowledge.new.points ≡ knowledge.old.points }
+    ensures computes { knowledge.new.computes ≡ knowledge.old.computes }
+{
+    match plan.step {
+        Step::Gone => {}
+        Step::Split { into, .. } => knowledge.forget_register(into),
+        _ => place_one(program, knowledge, instruction, symbol, plan),
     }
 }
 
@@ -484,9 +225,12 @@ pub(crate) fn find_places(
     function: &Function,
     items: &[Item],
     plans: &mut [Plan],
-) {
+)
+    ensures { ArePlaced program.now function.now items.now plans.new }
+{
     let mut knowledge = Knowledge::new(function.points, function.computes);
-    for (item, plan) in items.iter().zip(plans.iter_mut()) {
-        place_item(program, &mut knowledge, item, plan);
+    let count = items.len().min(plans.len());
+    for number in 0..count {
+        place_item(program, &mut knowledge, &items[number], &mut plans[number]);
     }
 }

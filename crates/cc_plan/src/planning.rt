@@ -1,5 +1,6 @@
 //! What is planned for each item of a function.
-ghost use Rattle.std.specs.Prelude.{◌≡◌, IfOk, length};
+ghost use Rattle.std.specs.Prelude.{◌≡◌, IfOk, OnOk, length};
+ghost use Rattle.cc_plan.specs.Placed.{ArePlaced};
 
 use crate::fusing::fuse;
 use crate::liveness::note_live;
@@ -15,7 +16,9 @@ fn plan_items(
     function: &Function,
     items: &[Item],
     plans: &mut [Plan],
-) -> Result<(), AllocError> {
+) -> Result<(), AllocError>
+    ensures { OnOk result (ArePlaced program.now function.now items.now plans.new) }
+{
     note_live(alloc, &program.symbols, function.first, items, plans)?;
     fuse(items, &program.symbols, plans);
     find_places(program, function, items, plans);
@@ -29,7 +32,8 @@ pub fn plans_of(
     function: &Function,
     items: &[Item],
 ) -> Result<Vec<Plan>, AllocError>
-    ensures { IfOk result (λ plans. length plans.items ≡ length items.now) }
+    ensures length { IfOk result (λ plans. length plans.items ≡ length items.now) }
+    ensures places { IfOk result (λ plans. ArePlaced program.now function.now items.now plans.items) }
 {
     let mut plans = vec![in alloc; Plan::new(); items.len()]?;
     plan_items(alloc, program, function, items, plans.as_mut_slice())?;
