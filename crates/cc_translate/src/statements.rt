@@ -1,6 +1,6 @@
 //! The translation of one statement, by itself and its plan.
 
-use crate::memory::{call_at, is_misaligned, is_null, jump_at, load_statement, store_statement};
+use cc_accesses::{call_at, is_misaligned, is_null, jump_at, load_statement, store_statement};
 use cc_emit::{
     Computed, Line, Output, Plain, Routine, Target, Transfer, Word, compute_line, shift_line,
 };

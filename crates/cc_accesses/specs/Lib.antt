@@ -1,0 +1,5 @@
+pub mod Accesses
+pub mod Loads
+pub mod Places
+pub mod Stores
+pub mod Unaligned
