@@ -1,5 +1,5 @@
 -- The word of memory that a datum is in, and where in it.
-use Rattle.std.specs.Prelude.{ℕ, nat_lt, Bool, false, not, ◌&&◌, ◌==◌, ◌%◌, List, [], ◌∷◌, Option}
+use Rattle.std.specs.Prelude.{ℕ, nat_lt, Bool, false, not, ◌&&◌, ◌==◌, ◌%◌, [], ◌∷◌, Option}
 use Rattle.std.specs.Int.{w32, cast_signed}
 use Rattle.cc_lines.specs.declared.instruction.Width.{Width}
 use Rattle.cc_lines.specs.declared.instruction.Width.TheVariants.{Half, Word}
