@@ -20,18 +20,18 @@ word_stored first place rs = followed_by (reached first place) (lines (word_stor
 abbrev pub bits_before : ℕ → ℕ
 bits_before byte = byte % 4 * 8
 
--- a word is turned until what the bits replace leaves it, takes the bits at its top, and is turned back
+-- a word is turned until the bits to replace are its lowest, which leave it as the new ones come in at its top, and is turned back
 abbrev pub inserted_at : ℕ → ℕ → ℕ → ℕ → List Line
 inserted_at word rs byte bits =
     lines (shifted Rotate word word (bits + bits_before byte))
     ++ (lines (Sh word rs bits word ∷ []) ++ lines (shifted Rotate word word (32 - bits_before byte)))
 
--- the same of a byte where a register tells it: it goes to the bottom, and the word is turned back by r1, which has -by
+-- the same of a byte where a register tells it: it is turned to the top and leaves, and r1, which has -by, turns the word back
 abbrev pub byte_inserted : ℕ → ℕ → ℕ → List Plain
 byte_inserted word rs by =
     Compute Rotlb word by word ∷ Sh 0 word 24 word ∷ Sh word rs 8 word ∷ Compute Sub 0 by FIRST ∷ Compute Rotlb word FIRST word ∷ []
 
--- and of a half, which begins at byte 0 or 2: a turn by as much turns it back
+-- and of a half, which begins at byte 0 or 2: the same turn again turns the word back
 abbrev pub half_inserted : ℕ → ℕ → ℕ → List Plain
 half_inserted word rs by =
     Compute Rotlb word by word ∷ Sh 0 word 16 word ∷ Sh word rs 16 word ∷ Compute Rotlb word by word ∷ []
