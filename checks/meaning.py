@@ -3,10 +3,10 @@
 
 usage: checks/meaning.py [DRAWN] [NAME ..]
 
-The rows of checks/cc/worked.txt, which were worked by hand, have to hold. The examples of examples/c and the tests of checks/cc, or those that are named, and DRAWN random programs (300), each at -O2 with the
-library, have to print what the native program prints, and to end with its status. Random programs are those of csmith, or where it or its
-headers are missing those of checks/random_c.py; one that does not end natively is passed over. MX_CC names the program, and
-CC_JOBS says how many programs are tried side by side (2).
+The rows of checks/cc/worked.txt, which were worked by hand, have to hold. The examples of examples/c and the tests of checks/cc, or those
+that are named, and DRAWN random programs (300), each at -O2 with the library, have to print what the native program prints, and to end
+with its status. Random programs are those of csmith, or where it or its headers are missing those of checks/random_c.py; one that does
+not end natively is passed over. MX_CC names the program, and CC_JOBS says how many programs are tried side by side (2).
 """
 import multiprocessing
 import os

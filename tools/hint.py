@@ -283,20 +283,20 @@ def of_line_of_c(source, label):
     """Yields the line of C that the instruction after a label was made from, where the source was translated from C."""
     if not is_regular(source):
         return
-    told, found = None, False
+    place, found = None, False
     with open(source, encoding="latin-1") as lines:
         for line in lines:
             begins = re.match(r"([\w.]+):", line)
             if begins and not re.match(r"L|_\.|\.", line):
-                told = None
+                place = None
             found = found or bool(begins) and begins[1] == label
             comment = re.match(r"; (.+:\d+)$", line)
             if comment:
-                told = comment[1]
+                place = comment[1]
             elif found and line.strip() and not begins:
                 break
-    if found and told:
-        yield f"zanderanvil: '{label}' is at {told}"
+    if found and place:
+        yield f"zanderanvil: '{label}' is at {place}"
 
 
 def of_modules(name, names):
