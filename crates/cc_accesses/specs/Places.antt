@@ -14,7 +14,7 @@ use Rattle.cc_accesses.specs.declared.places.Part.{Part}
 use Rattle.cc_accesses.specs.declared.places.Part.TheVariants as part
 use Rattle.cc_accesses.specs.declared.places.TheConstants.{FIRST_WORD}
 
--- the register that holds a quarter of the address that a word is told from: r26 for a far datum
+-- the register that holds a quarter of the address from which words are counted: r26 for a far datum
 abbrev pub word_base : Place → ℕ
 word_base (Byte base words byte) = base
 word_base (Turned base words by) = base

@@ -21,7 +21,7 @@ fn restores_link(function: &Function, rd: Register, base: Register, offset: u32)
     rd == Register::LINK && base == Register::STACK && function.saved_link == Some(offset)
 }
 
-/// A load from a place, which the base and the offset without the symbol's address were told of.
+/// A load from a place. Its base and its offset, without the symbol's address, say whether it is the link that the function saved.
 pub fn load_statement(
     out: &mut Output,
     function: &Function,

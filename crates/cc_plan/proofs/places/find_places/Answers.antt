@@ -7,7 +7,8 @@ use Rattle.cc_plan.proofs.places.find_places.Goals as goal
 pub loop-number-preserved : goal.loop-number-preserved
 loop-number-preserved c =
     let test = c.loop-number-test.true in let count = c.min-count.ensures in let size = c.loop-number.auto.plans in
-    simp unary_clauses (placed_next c.args.program.now c.args.function.now c.args.items.now c.loop-number.plans c.loop-number.knowledge c.place_item.new.knowledge
+    simp unary_clauses (placed_next c.args.program.now c.args.function.now c.args.items.now c.loop-number.plans
+    c.loop-number.knowledge c.place_item.new.knowledge
     c.loop-number.number _ c.place_item.new.plan c.loop-number.invariant
     (slice_get-get_or c.args.items.now c.loop-number.number _ (omega (arith, test, count))) (omega (arith, test, count, size)) (record {
       place = c.place_item.ensures.place;
