@@ -1,5 +1,5 @@
 //! The data words, the console and the input.
-ghost use Rattle.std.specs.Prelude.{◌≡◌, ◌<◌, ◌≤◌, length, IfOk, option_map, slice_index, cond, suc};
+ghost use Rattle.std.specs.Prelude.{◌≡◌, ◌≢◌, ◌<◌, ◌≤◌, true, false, length, IfOk, option_map, slice_index, cond, suc};
 ghost use Rattle.std.specs.Option.{option_copied};
 ghost use Rattle.mx_isa.specs.declared.board.TheConstants.{DATA_END, CONSOLE, MAX_DATA_WORDS};
 ghost use Rattle.mx_io.specs.declared.limits.TheConstants.{MAX_FILE_BYTES};
@@ -73,6 +73,27 @@ impl Board {
             input,
             taken: 0,
         })
+    }
+
+    /// The same board, in memory of its own.
+    pub fn copied(&self, alloc: Global) -> Result<Board, Memory>
+        ensures { IfOk result (λ b. b ≡ self.now) }
+    {
+        let words = Vec::from_slice(alloc, &self.words).map_err(|_| Memory)?;
+        let input = kept_input(alloc, self.input.as_deref()).map_err(|_| Memory)?;
+        Ok(Board {
+            words,
+            input,
+            taken: self.taken,
+        })
+    }
+
+    /// Whether another board has the same words, and as many of its input's bytes are taken.
+    pub fn has_data_of(&self, other: &Board) -> bool
+        ensures same { result ≡ true → self.now.words ≡ other.now.words × self.now.taken ≡ other.now.taken }
+        ensures differs { result ≡ false → self.now.words ≡ other.now.words → self.now.taken ≢ other.now.taken }
+    {
+        self.taken == other.taken && self.words == other.words
     }
 
     /// What a load finds. A user-mode load from 254 takes a byte of the input, if there is one.

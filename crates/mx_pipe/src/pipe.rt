@@ -1,8 +1,8 @@
 //! The pipeline.
-ghost use Rattle.std.specs.Prelude.{◌≡◌, ◌≤◌, IfOk, [], length};
+ghost use Rattle.std.specs.Prelude.{◌≡◌, ◌≤◌, Bool, List, IfOk, [], length};
 ghost use Rattle.mx_isa.specs.declared.board.TheConstants.{CODE_BASE};
 ghost use Rattle.mx_board.specs.Contents.{IsInput};
-ghost use Rattle.mx_turn.specs.Program.{image_program, image_under};
+ghost use Rattle.mx_turn.specs.Program.{Program, image_program, image_under};
 ghost use Rattle.mx_pipe.specs.Kept.{StandsFor};
 
 use crate::Latch;
@@ -119,6 +119,39 @@ impl<C: FetchCache> Pipe<C> {
             chain: Chain::new(),
             counts: Counts::none(),
             shown: Latches::before_turns(),
+            board,
+            cache,
+            code,
+            handler,
+            decoded,
+        })
+    }
+
+    /// The same machine in memory of its own, with an equal cache.
+    pub fn copied(&self, alloc: Global, cache: C) -> Result<Pipe<C>, Memory>
+        requires { cache ≡ self.now.cache }
+        ensures { IfOk result (λ t. (p : Program) (h : List Bool) → StandsFor C.holds self.now p h → StandsFor C.holds t p h) }
+    {
+        let board = self.board.copied(alloc)?;
+        let code = kept(alloc, &self.code)?;
+        let handler = kept(alloc, &self.handler)?;
+        let decoded = self.decoded.copied(alloc)?;
+        Ok(Pipe {
+            fetch: self.fetch,
+            rf: self.rf,
+            alu: self.alu,
+            mem: self.mem,
+            wb: self.wb,
+            file: self.file,
+            md: self.md,
+            next: self.next,
+            wait: self.wait,
+            asked: self.asked,
+            halted: self.halted,
+            psw: self.psw,
+            chain: self.chain,
+            counts: self.counts,
+            shown: self.shown,
             board,
             cache,
             code,

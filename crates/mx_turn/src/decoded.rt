@@ -82,6 +82,16 @@ impl Decoded {
         }
     }
 
+    /// The same, in memory of its own.
+    pub fn copied(&self, alloc: Global) -> Result<Decoded, Memory>
+        ensures { IfOk result (λ d. d ≡ self.now) }
+    {
+        match Vec::from_slice(alloc, &self.insts) {
+            Ok(insts) => Ok(Decoded { insts }),
+            Err(_) => Err(Memory),
+        }
+    }
+
     /// What a stage does, where it stands; none where it does nothing.
     pub fn get(&self, stage: Held) -> Option<&Inst>
         ensures what { IfSome result (λ i. i.now ≡ live (code_in self.now) stage) }
