@@ -1,0 +1,4 @@
+mod Cycles
+mod Held
+mod Ways
+mod Parts
