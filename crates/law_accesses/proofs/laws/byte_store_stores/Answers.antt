@@ -1,0 +1,5 @@
+use Rattle.law_accesses.proofs.PartStores as proof
+use Rattle.law_accesses.proofs.laws.byte_store_stores.Goals as goal
+
+pub returns : goal.returns
+returns c = proof.byte_store_stores

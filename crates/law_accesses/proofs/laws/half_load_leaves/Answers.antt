@@ -1,0 +1,5 @@
+use Rattle.law_accesses.proofs.PartLoads as proof
+use Rattle.law_accesses.proofs.laws.half_load_leaves.Goals as goal
+
+pub returns : goal.returns
+returns c = proof.half_load_leaves

@@ -1,0 +1,9 @@
+//! What a translation puts for loads and stores does what the semantics of the assembly says.
+#![tactic(auto)]
+
+mod laws;
+
+pub use laws::{
+    board_keeps_data, byte_load_leaves, byte_store_stores, half_load_leaves, half_store_stores,
+    link_load_takes, word_load_leaves, word_store_stores, words_move,
+};
