@@ -1,5 +1,5 @@
 -- Cycles without a request.
-use Rattle.std.proofs.Common.{◌≡◌, inl, inr, ℕ, zero, suc, ◌+◌, ◌<◌, ◌≤◌, false, List, ap, ◌∙◌, subst, arith}
+use Rattle.std.proofs.Common.{◌≡◌, inl, inr, ℕ, zero, suc, ◌+◌, ◌<◌, ◌≤◌, false, List, [], ◌∷◌, ◌++◌, refl, ap, ◌∙◌, subst, arith}
 use Rattle.std.proofs.lemmas.Bool.{cases_lt}
 use Rattle.std.proofs.lemmas.List.{same_from_push}
 use Rattle.mx_turn.specs.Program.{quiet}
@@ -15,3 +15,10 @@ none_asked requests i (suc n) are k l m =
       | inl under ↦ none_asked requests i n before k l under
       | inr over ↦ let same : k ≡ n + i = omega arith in ap (is_requested requests) same ∙ last
     ]
+
+-- where no request came, the bits are those of no request at all
+pub bits_before : (requests : List ℕ) (n : ℕ) → ((k : ℕ) → k < n → is_requested requests k ≡ false) → bits requests n ≡ bits [] n
+bits_before requests zero none = refl
+bits_before requests (suc n) none =
+    ap (λ l. l ++ is_requested requests n ∷ []) (bits_before requests n (λ k l. none k (omega arith)))
+    ∙ ap (λ b. bits [] n ++ b ∷ []) (none n (omega arith))

@@ -2,6 +2,8 @@ pub mod Terms
 pub mod Figures
 pub mod Comparisons
 pub mod Entries
+pub mod Going
+pub mod Forward
 pub mod Progress
 pub mod Rows
 pub mod Spreads

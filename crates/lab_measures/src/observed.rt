@@ -1,9 +1,10 @@
 //! A run, and how its last request became an interrupt.
-ghost use Rattle.std.specs.Prelude.{◌≡◌, IfSome, IfNone, IfOk, ℕ, List, Bool, [], true, false, suc};
+ghost use Rattle.std.specs.Prelude.{◌≡◌, ◌≤◌, ◌++◌, IfSome, IfNone, IfOk, ℕ, List, Bool, [], true, false, suc};
 ghost use Rattle.mx_turn.specs.Program.{Program, state_after, answer_after};
-ghost use Rattle.mx_turn.specs.Run.{is_requested, bits, console_after, run_of};
+ghost use Rattle.mx_turn.specs.Run.{is_requested, bits, console_after};
 ghost use Rattle.lab_measures.specs.declared.observed.Progress.TheVariants.{Idle};
-ghost use Rattle.lab_measures.specs.Entries.{Signals, IsEntry, signals_of, EntersBy};
+ghost use Rattle.lab_measures.specs.Entries.{Signals, IsEntry, signals_of};
+ghost use Rattle.lab_measures.specs.Going.{ComesTo, IsTold};
 ghost use Rattle.lab_measures.specs.Progress.{Reached, is_open, after_request, after_turn};
 
 use mx_board::Requests;
@@ -34,9 +35,9 @@ pub struct Run {
     pub entry: Option<Entry>,
 }
 
-// How far the last request has come.
+/// How far the last request has come.
 #[derive(Clone, Copy)]
-enum Progress {
+pub(crate) enum Progress {
     /// There was none.
     Idle,
     /// It is not taken yet.
@@ -120,22 +121,24 @@ fn progress_after<M: Machine>(
     asked.turned(u64::from(cycle), cycled.taken, cycled.stalled, alu)
 }
 
-// Who notes the console of a run, and how far its last request has come.
+// Who notes what a run sends behind the console that it had before, and how far its last request has come.
 #[derive(Drop)]
-struct Noter;
+pub(crate) struct Noter<'a> {
+    pub before: &'a [u8],
+}
 
 // What it notes.
 #[derive(Drop)]
-struct Notes {
-    console: Vec<u8>,
-    progress: Progress,
+pub(crate) struct Notes {
+    pub console: Vec<u8>,
+    pub progress: Progress,
 }
 
-impl<M: Machine> Observer<M> for Noter {
+impl<'a, M: Machine> Observer<M> for Noter<'a> {
     type Notes = Notes;
 
     ghost saw = { λ noter notes p requests n.
-        (notes.console.items ≡ console_after p (bits requests n)) × Reached (signals_of p requests) n n notes.progress };
+        (noter.before.now ++ notes.console.items ≡ console_after p (bits requests n)) × Reached (signals_of p requests) n n notes.progress };
 
     ghost fits = { λ noter notes n. Unit {0} };
 
@@ -173,8 +176,8 @@ impl<M: Machine> Observer<M> for Noter {
     }
 }
 
-// Nothing yet.
-fn no_notes(alloc: Global) -> Notes
+/// Nothing yet.
+pub(crate) fn no_notes(alloc: Global) -> Notes
     ensures console { result.console.items ≡ [] }
     ensures progress { result.progress ≡ Idle }
 {
@@ -184,22 +187,24 @@ fn no_notes(alloc: Global) -> Notes
     }
 }
 
-/// The run of a machine from its start, under these requests, for at most `budget` cycles.
-pub(crate) fn run_noted<M: Machine>(
+/// The run of a machine from a cycle on, before which no request came and this went to the console, under these requests, for at most
+/// `budget` cycles in all. The console of the run that it answers begins behind that.
+pub(crate) fn run_on<M: Machine>(
     alloc: Global,
     machine: &mut M,
+    from: u32,
+    before: &[u8],
     requests: &Requests,
     budget: u32,
 ) -> Result<Run, Memory>
-    requires start { M.cycles machine.old ≡ 0 }
-    ensures halted { IfOk result (λ r. (p : Program) → M.stands machine.old p [] → r.halted ≡ (run_of p requests.now budget).halted) }
-    ensures counts { IfOk result (λ r. (p : Program) → M.stands machine.old p [] → r.counts ≡ (run_of p requests.now budget).counts) }
-    ensures console { IfOk result (λ r. (p : Program) → M.stands machine.old p [] → r.console.items ≡ (run_of p requests.now budget).console) }
-    ensures entry { IfOk result (λ r. (p : Program) → M.stands machine.old p [] → EntersBy p requests.now budget r.entry) }
+    requires order { from ≤ budget }
+    requires counted { M.cycles machine.old ≤ from }
+    ensures { IfOk result (λ r. (p : Program) → M.stands machine.old p (bits requests.now from) → ComesTo p requests.now from before.now
+        → IsTold p requests.now budget before.now r) }
 {
-    let noter = Noter;
+    let noter = Noter { before };
     let mut notes = no_notes(alloc);
-    let reached = match observe(machine, requests, 0, budget, &noter, &mut notes) {
+    let reached = match observe(machine, requests, from, budget, &noter, &mut notes) {
         Ok(reached) => reached,
         Err(_) => return Err(Memory),
     };

@@ -1,14 +1,15 @@
 //! Runs with a request in each of some cycles in turn.
-ghost use Rattle.std.specs.Prelude.{◌≡◌, ◌<◌, ◌∷◌, ◌++◌, [], All, OnOk, IfOk, IfSome, None, if◌then◌else◌, cond, ltb, map};
+ghost use Rattle.std.specs.Prelude.{◌≡◌, ◌<◌, ◌≤◌, true, ◌∷◌, ◌++◌, [], All, OnOk, IfOk, IfSome, None, if◌then◌else◌, cond, ltb, map};
 ghost use Rattle.std.specs.Option.{option_to_list};
 ghost use Rattle.mx_board.specs.Contents.{IsInput};
 ghost use Rattle.lab_measures.specs.Rows.{cost_over};
 ghost use Rattle.lab_measures.specs.Spans.{pairs_with, rising_pairs};
+ghost use Rattle.lab_measures.specs.Forward.{ComesFor};
 ghost use Rattle.lab_measures.specs.Sweeps.{IsRowOf, requests_of, firsts};
 
 use crate::cycles::Span;
+use crate::forward::Forward;
 use crate::row::Row;
-use crate::runs::run_with;
 use lab_watch::Watcher;
 use mx_board::Requests;
 use mx_code::Image;
@@ -93,22 +94,56 @@ fn requests_for(alloc: Global, first: u32, second: Option<u32>) -> Result<Reques
     }
 }
 
-// The run with a request in one cycle, or in two, beside the console of the undisturbed run.
-fn row_of(alloc: Global, swept: &Swept, first: u32, second: Option<u32>) -> Result<Row, Memory>
+// Whether bytes are some bytes and then some others.
+fn are_joined(bytes: &[u8], first: &[u8], second: &[u8]) -> bool
+    ensures yes { result ≡ true → first.now ++ second.now ≡ bytes.now }
+    ensures no { first.now ++ second.now ≡ bytes.now → result ≡ true }
+{
+    if bytes.len() < first.len() {
+        return false;
+    }
+    let (front, rest) = bytes.split_at(first.len());
+    front == first && rest == second
+}
+
+// Brings the undisturbed run to a cycle: it goes on, or begins anew where it has come further.
+fn come_to(alloc: Global, forward: Forward, swept: &Swept, cycle: u32) -> Result<Forward, Memory>
     requires bytes { IsInput swept.now.input }
+    ensures within { IfOk result (λ f. f.cycle ≤ cycle) }
+    ensures come { IfOk result (λ f. ComesFor swept.now forward → ComesFor swept.now f) }
+{
+    let begun = if cycle < forward.cycle() {
+        Forward::new(alloc, swept.image, swept.input)?
+    } else {
+        forward
+    };
+    let gone = begun.go_on(alloc, cycle)?;
+    Ok(gone)
+}
+
+// The run with a request in one cycle, or in two, beside the console of the undisturbed run, which has not come further than the first.
+fn row_of(
+    alloc: Global,
+    forward: &Forward,
+    swept: &Swept,
+    first: u32,
+    second: Option<u32>,
+) -> Result<Row, Memory>
     requires rising { IfSome second (λ s. first < s) }
-    ensures row { IfOk result (IsRowOf swept.now) }
+    requires order { forward.now.cycle ≤ first }
+    requires within { forward.now.cycle ≤ swept.now.budget }
+    ensures row { IfOk result (λ row. ComesFor swept.now forward.now → IsRowOf swept.now row) }
     ensures first { IfOk result (λ row. row.first ≡ first) }
     ensures second { IfOk result (λ row. row.second ≡ second) }
 {
     let requests = requests_for(alloc, first, second)?;
-    let run = run_with(alloc, swept.image, swept.input, &requests, swept.budget)?;
+    let run = forward.run_with(alloc, &requests, swept.budget)?;
     Ok(Row {
         first,
         second,
         cycles: run.counts.cycles,
         halted: run.halted,
-        same_console: run.console.as_slice() == swept.undisturbed,
+        same_console: are_joined(swept.undisturbed, forward.console(), &run.console),
         entry: run.entry,
     })
 }
@@ -128,9 +163,11 @@ pub fn singles<W: Watcher>(alloc: Global, swept: &Swept, watcher: W) -> Result<V
     ensures alone { IfOk result (λ rows. All (λ row. row.second ≡ None) rows.items) }
 {
     let mut progress = Progress::new(watcher);
+    let mut forward = Forward::new(alloc, swept.image, swept.input)?;
     let mut rows = Vec::new(alloc);
     for first in swept.cycles {
-        let row = row_of(alloc, swept, *first, None)?;
+        forward = come_to(alloc, forward, swept, (*first).min(swept.budget))?;
+        let row = row_of(alloc, &forward, swept, *first, None)?;
         progress.add(row.cycles);
         push_row(&mut rows, row)?;
     }
@@ -140,21 +177,24 @@ pub fn singles<W: Watcher>(alloc: Global, swept: &Swept, watcher: W) -> Result<V
 // Adds the run with requests in two cycles, if the second is later.
 fn add_pair<W: Watcher>(
     alloc: Global,
+    forward: &Forward,
     swept: &Swept,
     first: u32,
     second: u32,
     progress: &mut Progress<W>,
     rows: &mut Vec<Row>,
 ) -> Result<(), Memory>
-    requires bytes { IsInput swept.now.input }
-    ensures rows { OnOk result (All (IsRowOf swept.now) rows.old.items → All (IsRowOf swept.now) rows.new.items) }
+    requires order { forward.now.cycle ≤ first }
+    requires within { forward.now.cycle ≤ swept.now.budget }
+    ensures rows { OnOk result
+        (ComesFor swept.now forward.now → All (IsRowOf swept.now) rows.old.items → All (IsRowOf swept.now) rows.new.items) }
     ensures pair { OnOk result
         (map requests_of rows.new.items ≡ map requests_of rows.old.items ++ cond (ltb first second) ((first ∷ second ∷ []) ∷ []) []) }
 {
     if first >= second {
         return Ok(());
     }
-    let row = row_of(alloc, swept, first, Some(second))?;
+    let row = row_of(alloc, forward, swept, first, Some(second))?;
     progress.add(row.cycles);
     push_row(rows, row)?;
     Ok(())
@@ -164,18 +204,21 @@ fn add_pair<W: Watcher>(
 #[tactic(auto, using(crate::proofs::Paired::pair_step, crate::proofs::Paired::pair_start, crate::proofs::Paired::pair_end))]
 fn add_pairs<W: Watcher>(
     alloc: Global,
+    forward: &Forward,
     swept: &Swept,
     first: u32,
     others: &[u32],
     progress: &mut Progress<W>,
     rows: &mut Vec<Row>,
 ) -> Result<(), Memory>
-    requires bytes { IsInput swept.now.input }
-    ensures rows { OnOk result (All (IsRowOf swept.now) rows.old.items → All (IsRowOf swept.now) rows.new.items) }
+    requires order { forward.now.cycle ≤ first }
+    requires within { forward.now.cycle ≤ swept.now.budget }
+    ensures rows { OnOk result
+        (ComesFor swept.now forward.now → All (IsRowOf swept.now) rows.old.items → All (IsRowOf swept.now) rows.new.items) }
     ensures pairs { OnOk result (map requests_of rows.new.items ≡ map requests_of rows.old.items ++ pairs_with first others.now) }
 {
     for second in others {
-        add_pair(alloc, swept, first, *second, progress, rows)?;
+        add_pair(alloc, forward, swept, first, *second, progress, rows)?;
     }
     Ok(())
 }
@@ -189,11 +232,21 @@ pub fn pairs<W: Watcher>(alloc: Global, swept: &Swept, watcher: W) -> Result<Vec
     ensures pairs { IfOk result (λ rows. map requests_of rows.items ≡ rising_pairs swept.now.cycles.now) }
 {
     let mut progress = Progress::new(watcher);
+    let mut forward = Forward::new(alloc, swept.image, swept.input)?;
     let mut rows = Vec::new(alloc);
     let cycles = swept.cycles;
     for at in 0..cycles.len() {
         let others = &cycles[at + 1..];
-        add_pairs(alloc, swept, cycles[at], others, &mut progress, &mut rows)?;
+        forward = come_to(alloc, forward, swept, cycles[at].min(swept.budget))?;
+        add_pairs(
+            alloc,
+            &forward,
+            swept,
+            cycles[at],
+            others,
+            &mut progress,
+            &mut rows,
+        )?;
     }
     Ok(rows)
 }

@@ -5,7 +5,7 @@ use Rattle.lab_measures.specs.Sweeps.{IsRowOf}
 use Rattle.lab_measures.proofs.sweep.add_pair.Goals as goal
 
 pub returns-clause-rows : goal.returns-clause-rows
-returns-clause-rows g c = λ all.
+returns-clause-rows g c = λ come all.
     let swept = c.args.swept.now in
     subst (λ (rows : List Row). All (IsRowOf swept) rows) (sym c.in_ok-push_row.ensures)
-    (All-push (IsRowOf swept) c.args.rows.now.items c.in_ok-row.row all c.in_ok-row.ensures.row)
+    (All-push (IsRowOf swept) c.args.rows.now.items c.in_ok-row.row all (c.in_ok-row.ensures.row come))
