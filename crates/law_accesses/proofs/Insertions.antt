@@ -154,7 +154,7 @@ half_back_by x k small even = two_cases (λ k. rotate_left w32 x ((32 - bits_bef
 
 -- ---- what they show
 
-same : (o : Option ℕ) (x y : ℕ) → x ≡ y → ShowsByte o y → ShowsByte o x
+pub same : (o : Option ℕ) (x y : ℕ) → x ≡ y → ShowsByte o y → ShowsByte o x
 same o x y e h = subst (ShowsByte o) (sym e) h
 
 byte_put_shows : (b : Bytes) (o : Option ℕ) (w k c : ℕ) → w < 2 ^ 32 → k < 4 → c < 2 ^ 8 → ShowsBytes b w → ShowsByte o c
@@ -173,7 +173,7 @@ half_put_shows b d w r k h small even s n =
     (same _ _ _ (omega arith) n.2, same _ _ _ (omega arith) n.3, same _ _ _ (omega arith) s.2, same _ _ _ (omega arith) s.3)
     (same _ _ _ (omega arith) s.0, same _ _ _ (omega arith) s.1, same _ _ _ (omega arith) n.2, same _ _ _ (omega arith) n.3) k small even
 
-value_shown : (p q r s : Option ℕ) (z : ℕ) → z < 2 ^ 32 → ShowsBytes (four p q r s) z
+pub value_shown : (p q r s : Option ℕ) (z : ℕ) → z < 2 ^ 32 → ShowsBytes (four p q r s) z
     → ShowsValue (value_with (word_of p q r s) (four p q r s)) z
 value_shown (Some a) (Some b) (Some c) (Some d) z l h =
     let e0 = h.0 in
@@ -191,7 +191,7 @@ value_shown (Some a) (Some b) None s z l h = h
 value_shown (Some a) (Some b) (Some c) None z l h = h
 
 -- a word shows what is known of the bytes of its value
-known_shown : (v : Value) (w : ℕ) → ShowsData v w → ShowsBytes (known_bytes v) w
+pub known_shown : (v : Value) (w : ℕ) → ShowsData v w → ShowsBytes (known_bytes v) w
 known_shown (Number n) w h = bytes_shown (Number n) _ w refl h
 known_shown (Code item) w h = (tt, tt, tt, tt)
 known_shown (Partial bytes) w h = h refl

@@ -6,3 +6,5 @@ pub mod PartLoads
 pub mod Insertions
 pub mod PartStores
 pub mod Links
+pub mod Merging
+pub mod Masking

@@ -38,7 +38,7 @@ use Rattle.law_accesses.proofs.Insertions.{byte_put, half_put, with_others, with
 
 -- ---- single instructions, which leave r26 too unless they write it
 
-set_again : (d v w : ℕ) (s t u : Core) → Sets d v s t → Sets d w t u → Sets d w s u
+pub set_again : (d v w : ℕ) (s t u : Core) → Sets d v s t → Sets d w t u → Sets d w s u
 set_again d v w s t u g h = record {
   given = h.given;
   kept = λ n k. h.kept n k ∙ g.kept n k;
@@ -48,11 +48,11 @@ set_again d v w s t u g h = record {
   words = h.words;
 }
 
-set_as : (d v w : ℕ) (s t : Core) → v ≡ w → Sets d v s t → Sets d w s t
+pub set_as : (d v w : ℕ) (s t : Core) → v ≡ w → Sets d v s t → Sets d w s t
 set_as d v w s t e g =
     record { given = λ ne. g.given ne ∙ e; kept = g.kept; md = g.md; mem = g.mem; taken = g.taken; words = g.words }
 
-computed : (bus : Bus) (a d b : ℕ) (c : Op) (s : Core) → HoldsWords s.regs → CountFits c → op_uses_md c ≡ false
+pub computed : (bus : Bus) (a d b : ℕ) (c : Op) (s : Core) → HoldsWords s.regs → CountFits c → op_uses_md c ≡ false
     → Sets d (result_of c (reg s.regs a) (reg s.regs b) s.md) s (act bus (inst.Compute a d b c) 0 s.regs s)
 computed bus a d b c s w n h =
     let g = computes bus a d b c s w n h in
@@ -99,7 +99,7 @@ emptied n w x bus s t l ne g =
     set_again w x _ s t _ g (set_as w _ _ t _ (ap (funnel n 0) (g.given ne)) (computed bus 0 w w (machine.Sh n) t g.words l refl))
 
 -- a word is turned by a register
-told : (by w x k : ℕ) (bus : Bus) (s t : Core) → w ≢ 0 → w ≢ by → reg s.regs by % 4 ≡ k → Sets w x s t
+pub told : (by w x k : ℕ) (bus : Bus) (s t : Core) → w ≢ 0 → w ≢ by → reg s.regs by % 4 ≡ k → Sets w x s t
     → Sets w (turned x k) s (ran bus (Compute Rotlb w by w ∷ []) t)
 told by w x k bus s t ne apart b g =
     set_again w x _ s t _ g
@@ -154,7 +154,7 @@ half_in w rs by x r k y z bus s t ne away apart e b g p q =
     set_as w _ z s _ q (told by w y k bus s _ ne away b (set_as w _ y s _ p j))
 
 -- and a byte, for which r1 turns the word back
-negated : (by k : ℕ) → by < 2 ^ 32 → by % 4 ≡ k → (0 + (2 ^ 32 - by)) % 2 ^ 32 % 4 ≡ (4 - k) % 4
+pub negated : (by k : ℕ) → by < 2 ^ 32 → by % 4 ≡ k → (0 + (2 ^ 32 - by)) % 2 ^ 32 % 4 ≡ (4 - k) % 4
 negated by k h e = omega arith
 
 byte_in : (w rs by x r k y z : ℕ) (bus : Bus) (s t : Core) → w ≢ 0 → w ≢ 1 → w ≢ by → (rs ≡ w → rs ≡ 0) → reg s.regs rs ≡ r

@@ -53,7 +53,7 @@ held_alone : (t : Bool) (value rd : ℕ) → is_straight (cond t [] (Constant va
 held_alone true value rd = refl
 held_alone false value rd = refl
 
-added_straight : (first : Option ℕ) (rs value rd : ℕ) → is_straight (added first rs value rd).lines ≡ true
+pub added_straight : (first : Option ℕ) (rs value rd : ℕ) → is_straight (added first rs value rd).lines ≡ true
 added_straight first rs value rd = by (rs == 0) (is_short (cast_signed w32 value))
   where
     long : Put
@@ -89,7 +89,7 @@ pub record Reached (place : Place) (first : Option ℕ) (before after : Core) : 
   pub words : HoldsWords after.regs
 
 -- the machine's shift with the sign by 2 is the quarter of an address
-quarter_is : (x : ℕ) → x < 2 ^ 32 → shift_right_signed 2 x ≡ quarter x
+pub quarter_is : (x : ℕ) → x < 2 ^ 32 → shift_right_signed 2 x ≡ quarter x
 quarter_is x h = grind (arith, nat_tests)
 
 quarter_whole : (x : ℕ) → x < 2 ^ 32 → (quarter x + 0) % 2 ^ 32 ≡ quarter x

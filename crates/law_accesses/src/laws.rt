@@ -6,18 +6,23 @@ ghost use Rattle.mx_isa.specs.declared.board.TheConstants.{DATA_BASE, DATA_END};
 ghost use Rattle.mx_isa.specs.declared.place.Place.{Place as Area};
 ghost use Rattle.mx_isa.specs.UserBus.{user_bus};
 ghost use Rattle.mx_board.specs.Data.{board};
-ghost use Rattle.cc_lines.specs.declared.instruction.Width.TheVariants.{Byte, Half, Word};
+ghost use Rattle.cc_lines.specs.declared.instruction.Width.TheVariants.{Byte, Half, Word, Left, Right};
+ghost use Rattle.cc_emit.specs.declared.line.Mask.TheVariants.{LoadLeft, LoadRight};
+ghost use Rattle.cc_emit.specs.declared.line.Word.{Word as Added};
 ghost use Rattle.cc_plan.specs.declared.plan.Place.{Place};
+ghost use Rattle.cc_plan.specs.declared.plan.Place.TheVariants.{Far};
 ghost use Rattle.cc_meaning.specs.declared.value.Value.{Value};
 ghost use Rattle.cc_meaning.specs.declared.value.Value.TheVariants.{Number};
 ghost use Rattle.cc_meaning.specs.declared.layout.Layout.{Layout};
 ghost use Rattle.cc_meaning.specs.States.{State, memory_word, with_word};
 ghost use Rattle.cc_meaning.specs.Memory.{loaded, stored};
-ghost use Rattle.cc_operations.specs.declared.between.TheConstants.{FIRST, SECOND};
-ghost use Rattle.cc_accesses.specs.Places.{word_base};
+ghost use Rattle.cc_operations.specs.declared.between.TheConstants.{FIRST, SECOND, THIRD};
+ghost use Rattle.cc_accesses.specs.Places.{word_base, addressed};
 ghost use Rattle.cc_accesses.specs.Loads;
 ghost use Rattle.cc_accesses.specs.Stores;
+ghost use Rattle.cc_accesses.specs.Unaligned;
 ghost use Rattle.law_operations.specs.Runs.{ran_lines, Leaves, IsNamed};
+ghost use Rattle.law_accesses.specs.Masks.{ran_taking, HasTable, LeavesMasked};
 ghost use Rattle.law_accesses.specs.Memories.{KeepsData, Access, is_shown, ShowsData, Stored, known_after_byte};
 
 /// A board keeps the data of user code, and so does each place that has all of them.
@@ -96,4 +101,23 @@ pub fn half_store_stores()
         → stored (Half signed) (address % 4) (memory_word a address) r ≡ Ok v
         → Stored l (with_word a address v) (address / 4) (Stores.word_register (word_base place)) (Stores.part_stored first place rs 16).first s
         (ran_lines bus (Stores.part_stored first place rs 16).lines s) }
+{}
+
+/// The lines of `lwl` leave the bytes of a word of the assembly's memory from a byte on, and then the last ones of the register. Places of
+/// `lwl` and the three like it are far ones, whose address r1 takes.
+pub fn left_load_leaves()
+    ensures { (first : Option ℕ) (base bytes rd address : ℕ) (held : Added → ℕ) (l : Layout) (a : State) (old v : Value) (bus : Bus) (s : Core)
+        → Access bus first (Far base bytes) address l a s → IsNamed rd → rd ≢ THIRD → HasTable held LoadLeft s.mem → ShowsData old (reg s.regs rd)
+        → loaded Left (address % 4) (memory_word a address) old ≡ Ok v
+        → LeavesMasked rd v (addressed first (Far base bytes)).first s
+        (ran_taking held bus (Unaligned.loaded first (Far base bytes) rd LoadLeft) s) }
+{}
+
+/// The lines of `lwr` leave the first bytes of the register, and then those of a word of the assembly's memory up to a byte.
+pub fn right_load_leaves()
+    ensures { (first : Option ℕ) (base bytes rd address : ℕ) (held : Added → ℕ) (l : Layout) (a : State) (old v : Value) (bus : Bus) (s : Core)
+        → Access bus first (Far base bytes) address l a s → IsNamed rd → rd ≢ THIRD → HasTable held LoadRight s.mem → ShowsData old (reg s.regs rd)
+        → loaded Right (address % 4) (memory_word a address) old ≡ Ok v
+        → LeavesMasked rd v (addressed first (Far base bytes)).first s
+        (ran_taking held bus (Unaligned.loaded first (Far base bytes) rd LoadRight) s) }
 {}
