@@ -8,3 +8,4 @@ pub mod PartStores
 pub mod Links
 pub mod Merging
 pub mod Masking
+pub mod MaskedStores

@@ -107,7 +107,7 @@ addressed_at first base bytes address l a bus s x =
 
 -- ---- single instructions
 
-whole : (n : ℕ) → n < 2 ^ 32 → (n + 0) % 2 ^ 32 ≡ n
+pub whole : (n : ℕ) → n < 2 ^ 32 → (n + 0) % 2 ^ 32 ≡ n
 whole n h = omega arith
 
 pub data_small : (n : ℕ) → IsData n → n < 2 ^ 32
@@ -314,10 +314,30 @@ masked first address rd z v s t u ne g h shown =
       words = h.words;
     }
 
+abbrev Ends : (Word → ℕ) → Option ℕ → ℕ → ℕ → ℕ → Mask → Value → Bus → Core → Type 0
+Ends held first base bytes rd mask v bus s =
+    LeavesMasked rd v (addressed first (Far base bytes)).first s (ran_taking held bus (unaligned.loaded first (Far base bytes) rd mask) s)
+
+-- where the word was turned so
+load_ends : (mask : Mask) (first : Option ℕ) (base bytes rd address y : ℕ) (held : Word → ℕ) (l : Layout) (a : State) (v : Value) (bus : Bus)
+    (s : Core) → Access bus first (Far base bytes) address l a s → IsNamed rd → rd ≢ 27 → HasTable held mask s.mem
+    → (let t = ran_lines bus (addressed first (Far base bytes)).lines s in Turns y t (ran bus (word_turned mask) t))
+    → ShowsValue v (joined (mask_at mask (address % 4)) (reg s.regs rd) y) → Ends held first base bytes rd mask v bus s
+load_ends mask first base bytes rd address y held l a v bus s x named ne table c shown =
+    let k = address % 4 in
+    let known = (addressed first (Far base bytes)).first in
+    let t = ran_lines bus (addressed first (Far base bytes)).lines s in
+    let g = addressed_at first base bytes address l a bus s x in
+    let d = prepared held bus mask y k t _ x.keeps (subst (HasTable held mask) (sym g.mem) table) (quarter_rest address) g.byte c in
+    let m = merges rd (reg s.regs rd) y (mask_at mask k) bus t _ named.1 ne (g.kept rd named.0 named.1) d in
+    let code = taking_straight held bus (addressed first (Far base bytes)).lines
+    (lines (word_turned mask) ++ (mask_taken mask ++ lines (merged rd))) s (added_straight first base bytes 1)
+    ∙ taking_parts held bus mask (word_turned mask) (merged rd) t in
+    subst (LeavesMasked rd v known s) (sym code) (masked known address rd _ v s t _ named.0 g m shown)
+
 pub left_load_leaves : (first : Option ℕ) (base bytes rd address : ℕ) (held : Word → ℕ) (l : Layout) (a : State) (old v : Value) (bus : Bus) (s : Core)
     → Access bus first (Far base bytes) address l a s → IsNamed rd → rd ≢ 27 → HasTable held LoadLeft s.mem → ShowsData old (reg s.regs rd)
-    → loaded Left (address % 4) (memory_word a address) old ≡ Ok v
-    → LeavesMasked rd v (addressed first (Far base bytes)).first s (ran_taking held bus (unaligned.loaded first (Far base bytes) rd LoadLeft) s)
+    → loaded Left (address % 4) (memory_word a address) old ≡ Ok v → Ends held first base bytes rd LoadLeft v bus s
 left_load_leaves first base bytes rd address held l a old v bus s x named ne table shown e =
     let k = address % 4 in
     let n = address / 4 in
@@ -327,20 +347,13 @@ left_load_leaves first base bytes rd address held l a old v bus s x named ne tab
     let t = ran_lines bus (addressed first (Far base bytes)).lines s in
     let g = addressed_at first base bytes address l a bus s x in
     let c = left_turned (s.mem n) k bus t g.byte (fetched_word _ address bus s t x.keeps g within fits) in
-    let d = prepared held bus LoadLeft _ k t _ x.keeps (subst (HasTable held LoadLeft) (sym g.mem) table) small g.byte c in
-    let m = merges rd (reg s.regs rd) _ _ bus t _ named.1 ne (g.kept rd named.0 named.1) d in
-    let code = taking_straight held bus (addressed first (Far base bytes)).lines
-    (lines (word_turned LoadLeft) ++ (mask_taken LoadLeft ++ lines (merged rd))) s (added_straight first base bytes 1)
-    ∙ taking_parts held bus LoadLeft (word_turned LoadLeft) (merged rd) t in
-    subst (LeavesMasked rd v (addressed first (Far base bytes)).first s) (sym code)
-    (masked (addressed first (Far base bytes)).first address rd _ v s t _ named.0 g m
+    load_ends LoadLeft first base bytes rd address _ held l a v bus s x named ne table c
     (subst (ShowsValue v) (sym (left_in (s.mem n) (reg s.regs rd) k fits small))
-    (left_value (memory_word a address) old v (s.mem n) (reg s.regs rd) k fits small e (x.shown.shown address x.within) shown)))
+    (left_value (memory_word a address) old v (s.mem n) (reg s.regs rd) k fits small e (x.shown.shown address x.within) shown))
 
 pub right_load_leaves : (first : Option ℕ) (base bytes rd address : ℕ) (held : Word → ℕ) (l : Layout) (a : State) (old v : Value) (bus : Bus) (s : Core)
     → Access bus first (Far base bytes) address l a s → IsNamed rd → rd ≢ 27 → HasTable held LoadRight s.mem → ShowsData old (reg s.regs rd)
-    → loaded Right (address % 4) (memory_word a address) old ≡ Ok v
-    → LeavesMasked rd v (addressed first (Far base bytes)).first s (ran_taking held bus (unaligned.loaded first (Far base bytes) rd LoadRight) s)
+    → loaded Right (address % 4) (memory_word a address) old ≡ Ok v → Ends held first base bytes rd LoadRight v bus s
 right_load_leaves first base bytes rd address held l a old v bus s x named ne table shown e =
     let k = address % 4 in
     let n = address / 4 in
@@ -350,13 +363,7 @@ right_load_leaves first base bytes rd address held l a old v bus s x named ne ta
     let t = ran_lines bus (addressed first (Far base bytes)).lines s in
     let g = addressed_at first base bytes address l a bus s x in
     let c = right_turned (s.mem n) k bus t g.words g.byte (fetched_word _ address bus s t x.keeps g within fits) in
-    let d = prepared held bus LoadRight _ k t _ x.keeps (subst (HasTable held LoadRight) (sym g.mem) table) small g.byte c in
-    let m = merges rd (reg s.regs rd) _ _ bus t _ named.1 ne (g.kept rd named.0 named.1) d in
-    let code = taking_straight held bus (addressed first (Far base bytes)).lines
-    (lines (word_turned LoadRight) ++ (mask_taken LoadRight ++ lines (merged rd))) s (added_straight first base bytes 1)
-    ∙ taking_parts held bus LoadRight (word_turned LoadRight) (merged rd) t in
-    subst (LeavesMasked rd v (addressed first (Far base bytes)).first s) (sym code)
-    (masked (addressed first (Far base bytes)).first address rd _ v s t _ named.0 g m
+    load_ends LoadRight first base bytes rd address _ held l a v bus s x named ne table c
     (subst (ShowsValue v) (sym (right_in (s.mem n) (reg s.regs rd) k fits (x.words rd) small))
     (right_value (memory_word a address) old v (s.mem n) (reg s.regs rd) k fits (x.words rd) small e
-    (x.shown.shown address x.within) shown)))
+    (x.shown.shown address x.within) shown))

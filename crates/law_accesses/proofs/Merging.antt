@@ -1,17 +1,17 @@
 -- Words that have some bytes of one word and some of another.
-use Rattle.std.proofs.Common.{◌≡◌, ◌≤◌, ◌<◌, ◌^◌, ℕ, ◌+◌, ◌-◌, ◌*◌, ◌/◌, ◌%◌, Result, Ok, Err, refl, ap, ap₂, ◌∙◌, arith, subst, pow_pos}
+use Rattle.std.proofs.Common.{◌≡◌, ◌≤◌, ◌<◌, ◌^◌, ℕ, ◌+◌, ◌-◌, ◌*◌, ◌/◌, ◌%◌, Result, Ok, Err, refl, sym, ap, ap₂, ◌∙◌, arith, subst, pow_pos}
 use Rattle.std.specs.Prelude.{bit_and, bit_or, slice_index_or}
 use Rattle.std.specs.Int.Bits.{or_shifted_r}
 use Rattle.std.proofs.lemmas.Nat.{and_mask, or_comm, mod_below}
 use Rattle.std.proofs.lemmas.Nat.Bits.{and_high_mask}
-use Rattle.cc_emit.specs.declared.line.Mask.TheVariants.{LoadLeft, LoadRight}
+use Rattle.cc_emit.specs.declared.line.Mask.TheVariants.{LoadLeft, LoadRight, StoreLeft, StoreRight}
 use Rattle.cc_emit.specs.declared.line.Mask.{Mask}
 use Rattle.cc_emit.specs.Labels.{mask_words}
 use Rattle.cc_meaning.specs.declared.value.Bytes.{Bytes}
 use Rattle.cc_meaning.specs.declared.value.Value.{Value}
 use Rattle.cc_meaning.specs.declared.value.Why.{Why}
 use Rattle.cc_meaning.specs.Values.{and_then, bytes_of, known_bytes, value_of}
-use Rattle.cc_meaning.specs.Memory.{select, left_loaded, right_loaded}
+use Rattle.cc_meaning.specs.Memory.{select, left_loaded, right_loaded, left_stored, right_stored}
 use Rattle.law_operations.specs.Runs.{ShowsValue}
 use Rattle.law_accesses.specs.Memories.{ShowsData}
 use Rattle.law_accesses.proofs.Parts.{four_cases, turned, turned_by, ShowsBytes, bytes_shown}
@@ -92,6 +92,51 @@ right_in w r k h fits small =
     three : r / 2 ^ 24 * 2 ^ 24 + ((w % 2 ^ 8) * 2 ^ 24 + w / 2 ^ 8) % 2 ^ 24 ≡ r / 2 ^ 24 * 2 ^ 24 + w / 2 ^ 8
     three = omega arith
 
+-- a store to byte k moves what a load from byte 3 - k would, the other way
+pub left_out : (w r k : ℕ) → w < 2 ^ 32 → r < 2 ^ 32 → k < 4
+    → joined (mask_at StoreLeft k) (turned r ((4 - k) % 4)) w ≡ right_put r (3 - k) w
+left_out w r k h fits small =
+    let t = turned_by r fits in
+    four_cases (λ k. joined (mask_at StoreLeft k) (turned r ((4 - k) % 4)) w ≡ right_put r (3 - k) w)
+    (ap (λ y. joined 4294967295 y w) t.0 ∙ low_joined 32 r w 4294967295 0 (omega arith) h refl refl ∙ zero)
+    (ap (λ y. joined 16777215 y w) t.1.1.1 ∙ low_joined 24 _ w 16777215 (2 ^ 32 - 1 - 16777215) (omega arith) h refl refl ∙ one)
+    (ap (λ y. joined 65535 y w) t.1.1.0 ∙ low_joined 16 _ w 65535 (2 ^ 32 - 1 - 65535) (omega arith) h refl refl ∙ two)
+    (ap (λ y. joined 255 y w) t.1.0 ∙ low_joined 8 _ w 255 (2 ^ 32 - 1 - 255) (omega arith) h refl refl ∙ three) k small
+  where
+    zero : w / 2 ^ 32 * 2 ^ 32 + r % 2 ^ 32 ≡ r
+    zero = omega arith
+
+    one : w / 2 ^ 24 * 2 ^ 24 + ((r % 2 ^ 8) * 2 ^ 24 + r / 2 ^ 8) % 2 ^ 24 ≡ w / 2 ^ 24 * 2 ^ 24 + r / 2 ^ 8
+    one = omega arith
+
+    two : w / 2 ^ 16 * 2 ^ 16 + ((r % 2 ^ 16) * 2 ^ 16 + r / 2 ^ 16) % 2 ^ 16 ≡ w / 2 ^ 16 * 2 ^ 16 + r / 2 ^ 16
+    two = omega arith
+
+    three : w / 2 ^ 8 * 2 ^ 8 + ((r % 2 ^ 24) * 2 ^ 8 + r / 2 ^ 24) % 2 ^ 8 ≡ w / 2 ^ 8 * 2 ^ 8 + r / 2 ^ 24
+    three = omega arith
+
+pub right_out : (w r k : ℕ) → w < 2 ^ 32 → r < 2 ^ 32 → k < 4
+    → joined (mask_at StoreRight k) (turned r (3 - k)) w ≡ left_put r (3 - k) w
+right_out w r k h fits small =
+    let t = turned_by r fits in
+    four_cases (λ k. joined (mask_at StoreRight k) (turned r (3 - k)) w ≡ left_put r (3 - k) w)
+    (ap (λ y. joined 4278190080 y w) t.1.1.1 ∙ high_joined 24 _ w 4278190080 16777215 (omega arith) (omega arith) refl refl ∙ three)
+    (ap (λ y. joined 4294901760 y w) t.1.1.0 ∙ high_joined 16 _ w 4294901760 65535 (omega arith) (omega arith) refl refl ∙ two)
+    (ap (λ y. joined 4294967040 y w) t.1.0 ∙ high_joined 8 _ w 4294967040 255 (omega arith) (omega arith) refl refl ∙ one)
+    (ap (λ y. joined 4294967295 y w) t.0 ∙ low_joined 32 r w 4294967295 0 (omega arith) h refl refl ∙ zero) k small
+  where
+    zero : w / 2 ^ 32 * 2 ^ 32 + r % 2 ^ 32 ≡ r
+    zero = omega arith
+
+    one : ((r % 2 ^ 24) * 2 ^ 8 + r / 2 ^ 24) / 2 ^ 8 * 2 ^ 8 + w % 2 ^ 8 ≡ (r % 2 ^ 24) * 2 ^ 8 + w % 2 ^ 8
+    one = omega arith
+
+    two : ((r % 2 ^ 16) * 2 ^ 16 + r / 2 ^ 16) / 2 ^ 16 * 2 ^ 16 + w % 2 ^ 16 ≡ (r % 2 ^ 16) * 2 ^ 16 + w % 2 ^ 16
+    two = omega arith
+
+    three : ((r % 2 ^ 8) * 2 ^ 24 + r / 2 ^ 8) / 2 ^ 24 * 2 ^ 24 + w % 2 ^ 24 ≡ (r % 2 ^ 8) * 2 ^ 24 + w % 2 ^ 24
+    three = omega arith
+
 -- ---- what they show
 
 left_shows : (b d : Bytes) (w r k : ℕ) → w < 2 ^ 32 → k < 4 → ShowsBytes b w → ShowsBytes d r
@@ -141,3 +186,32 @@ pub right_value : (word old v : Value) (w r k : ℕ) → w < 2 ^ 32 → r < 2 ^ 
 right_value word old v w r k h fits small e s n =
     value_made word v (λ b. right_loaded b k (known_bytes old)) _ w (right_put w k r) refl e s (right_small w r k h fits small)
     (λ b i. right_shows b (known_bytes old) w r k h small i (known_shown old r n))
+
+-- ---- stores
+
+left_stored_is : (b d : Bytes) (k : ℕ) → k < 4 → left_stored b k d ≡ right_loaded d (3 - k) b
+left_stored_is b d k small = four_cases (λ k. left_stored b k d ≡ right_loaded d (3 - k) b) refl refl refl refl k small
+
+right_stored_is : (b d : Bytes) (k : ℕ) → k < 4 → right_stored b k d ≡ left_loaded d (3 - k) b
+right_stored_is b d k small = four_cases (λ k. right_stored b k d ≡ left_loaded d (3 - k) b) refl refl refl refl k small
+
+other_byte : (k : ℕ) → k < 4 → 3 - k < 4
+other_byte k small = omega arith
+
+pub left_value_out : (word from v : Value) (w r k : ℕ) → w < 2 ^ 32 → r < 2 ^ 32 → k < 4
+    → and_then (bytes_of from) (λ b. Ok (value_of (left_stored (known_bytes word) k b))) ≡ Ok v → ShowsData word w → ShowsData from r
+    → ShowsValue v (right_put r (3 - k) w)
+left_value_out word from v w r k h fits small e s n =
+    let l = other_byte k small in
+    value_made from v (λ b. left_stored (known_bytes word) k b) _ r (right_put r (3 - k) w) refl e n (right_small r w (3 - k) fits h l)
+    (λ b i. subst (λ c. ShowsBytes c (right_put r (3 - k) w)) (sym (left_stored_is (known_bytes word) b k small))
+    (right_shows b (known_bytes word) r w (3 - k) fits l i (known_shown word w s)))
+
+pub right_value_out : (word from v : Value) (w r k : ℕ) → w < 2 ^ 32 → r < 2 ^ 32 → k < 4
+    → and_then (bytes_of from) (λ b. Ok (value_of (right_stored (known_bytes word) k b))) ≡ Ok v → ShowsData word w → ShowsData from r
+    → ShowsValue v (left_put r (3 - k) w)
+right_value_out word from v w r k h fits small e s n =
+    let l = other_byte k small in
+    value_made from v (λ b. right_stored (known_bytes word) k b) _ r (left_put r (3 - k) w) refl e n (left_small r w (3 - k) fits l)
+    (λ b i. subst (λ c. ShowsBytes c (left_put r (3 - k) w)) (sym (right_stored_is (known_bytes word) b k small))
+    (left_shows b (known_bytes word) r w (3 - k) fits l i (known_shown word w s)))

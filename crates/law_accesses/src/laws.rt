@@ -7,7 +7,7 @@ ghost use Rattle.mx_isa.specs.declared.place.Place.{Place as Area};
 ghost use Rattle.mx_isa.specs.UserBus.{user_bus};
 ghost use Rattle.mx_board.specs.Data.{board};
 ghost use Rattle.cc_lines.specs.declared.instruction.Width.TheVariants.{Byte, Half, Word, Left, Right};
-ghost use Rattle.cc_emit.specs.declared.line.Mask.TheVariants.{LoadLeft, LoadRight};
+ghost use Rattle.cc_emit.specs.declared.line.Mask.TheVariants.{LoadLeft, LoadRight, StoreLeft, StoreRight};
 ghost use Rattle.cc_emit.specs.declared.line.Word.{Word as Added};
 ghost use Rattle.cc_plan.specs.declared.plan.Place.{Place};
 ghost use Rattle.cc_plan.specs.declared.plan.Place.TheVariants.{Far};
@@ -22,7 +22,7 @@ ghost use Rattle.cc_accesses.specs.Loads;
 ghost use Rattle.cc_accesses.specs.Stores;
 ghost use Rattle.cc_accesses.specs.Unaligned;
 ghost use Rattle.law_operations.specs.Runs.{ran_lines, Leaves, IsNamed};
-ghost use Rattle.law_accesses.specs.Masks.{ran_taking, HasTable, LeavesMasked};
+ghost use Rattle.law_accesses.specs.Masks.{ran_taking, HasTable, LeavesMasked, StoredMasked};
 ghost use Rattle.law_accesses.specs.Memories.{KeepsData, Access, is_shown, ShowsData, Stored, known_after_byte};
 
 /// A board keeps the data of user code, and so does each place that has all of them.
@@ -120,4 +120,22 @@ pub fn right_load_leaves()
         → loaded Right (address % 4) (memory_word a address) old ≡ Ok v
         → LeavesMasked rd v (addressed first (Far base bytes)).first s
         (ran_taking held bus (Unaligned.loaded first (Far base bytes) rd LoadRight) s) }
+{}
+
+/// The lines of `swl` replace the bytes of a word of the assembly's memory from a byte on by the first ones of the register.
+pub fn left_store_stores()
+    ensures { (first : Option ℕ) (base bytes rs address : ℕ) (held : Added → ℕ) (l : Layout) (a : State) (r v : Value) (bus : Bus) (s : Core)
+        → Access bus first (Far base bytes) address l a s → IsNamed rs → HasTable held StoreLeft s.mem → ShowsData r (reg s.regs rs)
+        → stored Left (address % 4) (memory_word a address) r ≡ Ok v
+        → StoredMasked l (with_word a address v) (address / 4) s
+        (ran_taking held bus (Unaligned.stored first (Far base bytes) rs StoreLeft) s) }
+{}
+
+/// The lines of `swr` replace the bytes of a word of the assembly's memory up to a byte by the last ones of the register.
+pub fn right_store_stores()
+    ensures { (first : Option ℕ) (base bytes rs address : ℕ) (held : Added → ℕ) (l : Layout) (a : State) (r v : Value) (bus : Bus) (s : Core)
+        → Access bus first (Far base bytes) address l a s → IsNamed rs → HasTable held StoreRight s.mem → ShowsData r (reg s.regs rs)
+        → stored Right (address % 4) (memory_word a address) r ≡ Ok v
+        → StoredMasked l (with_word a address v) (address / 4) s
+        (ran_taking held bus (Unaligned.stored first (Far base bytes) rs StoreRight) s) }
 {}
