@@ -9,3 +9,4 @@ pub mod Links
 pub mod Merging
 pub mod Masking
 pub mod MaskedStores
+pub mod Pointers

@@ -310,7 +310,8 @@ half_inserts (Far base bytes) w rs x k r first bus t u p f b g e h small even =
 
 -- the word of a place in a register, which leaves r26 too unless it takes it
 pub fetched_sets : (bus : Bus) (place : Place) (first : Option ℕ) (w address : ℕ) (l : Layout) (a : State) (s t : Core)
-    → Access bus first place address l a s → (known : Option ℕ) → Reached place known s t → Sets w (s.mem (address / 4)) t (ran bus (word_load place w ∷ []) t)
+    → Access bus first place address l a s → (known : Option ℕ) → Reached place known s t
+    → Sets w (s.mem (address / 4)) t (ran bus (word_load place w ∷ []) t)
 fetched_sets bus place first w address l a s t x known g =
     let h = fetched bus place known w address l a s t x.keeps x.shown x.at (in_data l address x.within) g in
     record {

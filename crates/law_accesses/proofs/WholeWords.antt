@@ -16,21 +16,26 @@ use Rattle.cc_accesses.specs.Stores.{word_stored}
 use Rattle.cc_accesses.specs.Places.{word_base, word_offset, reached, word_load, word_store}
 use Rattle.law_operations.specs.Runs.{ran, ran_lines, ShowsValue, Gives, Leaves, IsNamed}
 use Rattle.law_operations.proofs.Rest.{known_after}
-use Rattle.law_accesses.specs.Memories.{KeepsData, is_shown, ShowsData, ShowsMemory, Stored, Access}
+use Rattle.law_accesses.specs.Memories.{IsData, KeepsData, is_shown, ShowsData, ShowsMemory, Stored, Access}
 use Rattle.law_accesses.proofs.Data.{load_gives, gives_shown, store_puts, shows_after, put_other}
 use Rattle.law_accesses.proofs.Reaching.{IsInData, Reached, place_reached, reached_then, located, in_data}
 
 -- what a place's word leaves in a register, after the lines that reach the place
-pub fetched : (bus : Bus) (place : Place) (first : Option ℕ) (rd address : ℕ) (l : Layout) (a : State) (s t : Core)
-    → KeepsData bus → ShowsMemory l a s.mem → IsAt (reg s.regs) place address → IsInData address → Reached place first s t
+pub fetched_data : (bus : Bus) (place : Place) (first : Option ℕ) (rd address : ℕ) (s t : Core) → KeepsData bus
+    → ((n : ℕ) → IsData n → s.mem n < 2 ^ 32) → IsAt (reg s.regs) place address → IsInData address → Reached place first s t
     → Gives rd (Number (s.mem (address / 4))) t (ran bus (word_load place rd ∷ []) t)
-fetched bus place first rd address l a s t k m at d g =
+fetched_data bus place first rd address s t k words at d g =
     let e = located (reg s.regs) place address at d in
     let n = address / 4 in
     let same : t.mem n ≡ s.mem n = ap (λ x. x n) g.mem in
     subst (λ w. Gives rd (Number w) t (ran bus (word_load place rd ∷ []) t)) same
     (load_gives bus (word_base place) (word_offset place) rd n t k g.words g.small (g.at ∙ e.0) e.1.1
-    (subst (λ w. w < 2 ^ 32) (sym same) (m.words n e.1.1)))
+    (subst (λ w. w < 2 ^ 32) (sym same) (words n e.1.1)))
+
+pub fetched : (bus : Bus) (place : Place) (first : Option ℕ) (rd address : ℕ) (l : Layout) (a : State) (s t : Core)
+    → KeepsData bus → ShowsMemory l a s.mem → IsAt (reg s.regs) place address → IsInData address → Reached place first s t
+    → Gives rd (Number (s.mem (address / 4))) t (ran bus (word_load place rd ∷ []) t)
+fetched bus place first rd address l a s t k m at d g = fetched_data bus place first rd address s t k m.words at d g
 
 -- what a register has after a place was reached
 pub after_reached : (place : Place) (first : Option ℕ) (d : ℕ) (v : Value) (s t u : Core) → d ≢ 1 → Reached place first s t → Gives d v t u

@@ -1,5 +1,5 @@
 //! Laws over the definitions.
-ghost use Rattle.std.specs.Prelude.{◌≡◌, ◌≢◌, ◌≤◌, ◌/◌, ◌%◌, ℕ, Bool, List, Option, Ok, true, false};
+ghost use Rattle.std.specs.Prelude.{◌≡◌, ◌≢◌, ◌≤◌, ◌/◌, ◌%◌, ℕ, Bool, List, [], ◌∷◌, ◌++◌, Option, Ok, true, false};
 ghost use Rattle.mx_isa.specs.Words.{put, reg};
 ghost use Rattle.mx_isa.specs.Effect.{Core, Bus};
 ghost use Rattle.mx_isa.specs.declared.board.TheConstants.{DATA_BASE, DATA_END};
@@ -7,6 +7,8 @@ ghost use Rattle.mx_isa.specs.declared.place.Place.{Place as Area};
 ghost use Rattle.mx_isa.specs.UserBus.{user_bus};
 ghost use Rattle.mx_board.specs.Data.{board};
 ghost use Rattle.cc_lines.specs.declared.instruction.Width.TheVariants.{Byte, Half, Word, Left, Right};
+ghost use Rattle.cc_emit.specs.declared.line.Line.TheVariants.{Transfer};
+ghost use Rattle.cc_emit.specs.declared.line.Transfer.TheVariants.{CallReg, JumpReg};
 ghost use Rattle.cc_emit.specs.declared.line.Mask.TheVariants.{LoadLeft, LoadRight, StoreLeft, StoreRight};
 ghost use Rattle.cc_emit.specs.declared.line.Word.{Word as Added};
 ghost use Rattle.cc_plan.specs.declared.plan.Place.{Place};
@@ -16,7 +18,9 @@ ghost use Rattle.cc_meaning.specs.declared.value.Value.TheVariants.{Number};
 ghost use Rattle.cc_meaning.specs.declared.layout.Layout.{Layout};
 ghost use Rattle.cc_meaning.specs.States.{State, memory_word, with_word};
 ghost use Rattle.cc_meaning.specs.Memory.{loaded, stored};
+ghost use Rattle.cc_meaning.specs.Instructions.{pointed};
 ghost use Rattle.cc_operations.specs.declared.between.TheConstants.{FIRST, SECOND, THIRD};
+ghost use Rattle.cc_accesses.specs.Accesses.{called_at, jumped_at};
 ghost use Rattle.cc_accesses.specs.Places.{word_base, addressed};
 ghost use Rattle.cc_accesses.specs.Loads;
 ghost use Rattle.cc_accesses.specs.Stores;
@@ -24,6 +28,7 @@ ghost use Rattle.cc_accesses.specs.Unaligned;
 ghost use Rattle.law_operations.specs.Runs.{ran_lines, Leaves, IsNamed};
 ghost use Rattle.law_accesses.specs.Masks.{ran_taking, HasTable, LeavesMasked, StoredMasked};
 ghost use Rattle.law_accesses.specs.Memories.{KeepsData, Access, is_shown, ShowsData, Stored, known_after_byte};
+ghost use Rattle.law_accesses.specs.Pointers.{Pointer, ShowsCode};
 
 /// A board keeps the data of user code, and so does each place that has all of them.
 pub fn board_keeps_data()
@@ -138,4 +143,22 @@ pub fn right_store_stores()
         → stored Right (address % 4) (memory_word a address) r ≡ Ok v
         → StoredMasked l (with_word a address v) (address / 4) s
         (ran_taking held bus (Unaligned.stored first (Far base bytes) rs StoreRight) s) }
+{}
+
+/// Before a call by a pointer, r26 takes the code address of the item that the semantics of the assembly calls, and the call goes by r26.
+pub fn call_leaves_target()
+    ensures { (first : Option ℕ) (place : Place) (address item : ℕ) (codes : ℕ → ℕ) (a : State) (bus : Bus) (s : Core)
+        → Pointer bus first place address s → ShowsCode codes a address s.mem → pointed a address ≡ Ok item
+        → let before = (Loads.word_loaded first place SECOND false).lines in
+        ((called_at first place).lines ≡ before ++ Transfer (CallReg SECOND 31) ∷ [])
+        × Leaves SECOND (Number (codes item)) (called_at first place).first s (ran_lines bus before s) }
+{}
+
+/// Before a jump by a pointer, r26 takes the code address of the item that the semantics of the assembly goes to, and the jump goes by r26.
+pub fn jump_leaves_target()
+    ensures { (first : Option ℕ) (place : Place) (address item : ℕ) (codes : ℕ → ℕ) (a : State) (bus : Bus) (s : Core)
+        → Pointer bus first place address s → ShowsCode codes a address s.mem → pointed a address ≡ Ok item
+        → let before = (Loads.word_loaded first place SECOND false).lines in
+        ((jumped_at first place).lines ≡ before ++ Transfer (JumpReg SECOND) ∷ [])
+        × Leaves SECOND (Number (codes item)) (jumped_at first place).first s (ran_lines bus before s) }
 {}
