@@ -2,3 +2,4 @@ mod Cycles
 mod Held
 mod Ways
 mod Parts
+mod Users

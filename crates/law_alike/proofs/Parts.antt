@@ -1,5 +1,5 @@
 -- Two pipelines whose parts are the same stand for states that go on alike.
-use Rattle.std.proofs.Common.{◌≡◌, ℕ, Bool, false, cond, List, [], ◌∷◌, sym, ap, ◌∙◌, subst}
+use Rattle.std.proofs.Common.{◌≡◌, ℕ, Bool, true, false, cond, List, [], ◌∷◌, sym, ap, ◌∙◌, subst}
 use Rattle.std.specs.Prelude.{slice_index}
 use Rattle.mx_isa.specs.declared.inst.Inst.{Inst}
 use Rattle.mx_isa.specs.Words.{Words, reg, write}
@@ -7,6 +7,8 @@ use Rattle.mx_isa.specs.Views.{dest, is_load}
 use Rattle.mx_icache.specs.declared.line_cache.LineCache.{LineCache}
 use Rattle.mx_icache.specs.Residency.{resident}
 use Rattle.mx_icache.specs.LineSets.{CacheHolds}
+use Rattle.mx_board.specs.Data.{is_user_data, words_of}
+use Rattle.mx_pcchain.specs.declared.psw.Psw.{Psw}
 use Rattle.mx_turn.specs.System.{slot_of, no_slot}
 use Rattle.mx_turn.specs.Cycle.{MachineState}
 use Rattle.mx_turn.specs.Program.{Program, state_after}
@@ -15,7 +17,8 @@ use Rattle.mx_pipe.specs.declared.pipe.Wait.{Wait}
 use Rattle.mx_pipe.specs.declared.pipe.Wait.TheVariants.{NotAsked, Missed}
 use Rattle.mx_pipe.specs.Latched.{does}
 use Rattle.mx_pipe.specs.Kept.{Waits, StandsFor}
-use Rattle.law_alike.specs.Alike.{AnswerAlike, GoOnLike}
+use Rattle.law_alike.specs.Alike.{AnswerAlike}
+use Rattle.law_alike.specs.Users.{UsersGoOnLike, with_words}
 use Rattle.law_alike.proofs.Cycles.{alike_on}
 
 -- what is compared
@@ -37,7 +40,9 @@ pub record SameParts (t u : Pipe LineCache) : Type 0 where
   pub written : (n : ℕ → ℕ) → write n t.mem.b t.mem.result ≡ write n u.mem.b u.mem.result
   pub file : t.file ≡ u.file
   pub caches : (past past' : List ℕ) → CacheHolds t.cache past → CacheHolds u.cache past' → AnswerAlike past past'
-  pub words : t.board.words ≡ u.board.words
+  pub words : (a : ℕ) → is_user_data a ≡ true → words_of t.board a ≡ words_of u.board a
+  pub user : t.psw.current.user ≡ true
+  pub quiet : t.asked ≡ false
   pub taken : t.board.taken ≡ u.board.taken
 
 -- the coming fetch is waited for alike
@@ -100,7 +105,7 @@ module _ (t u : Pipe LineCache) (e : SameParts t u) (p : Program) (h k : List Bo
       sym s.tied.behind.slot ∙ slot_by (does t.mem) (does u.mem) (slice_index t.file) (slice_index u.file) e.load to_same file_same
       ∙ r.tied.behind.slot
 
-  states_same : record m { past = m'.past; counts = m'.counts; shown = m'.shown } ≡ m'
+  states_same : record (with_words m m'.core.mem) { past = m'.past; counts = m'.counts; shown = m'.shown } ≡ m'
   states_same = λ i. record {
     next = next_same i;
     fetch = (sym s.tied.fetch ∙ e.fetch ∙ r.tied.fetch) i;
@@ -114,7 +119,7 @@ module _ (t u : Pipe LineCache) (e : SameParts t u) (p : Program) (h k : List Bo
     core = record {
       regs = regs_same i;
       md = (sym s.tied.rest.md ∙ e.md ∙ r.tied.rest.md) i;
-      mem = (sym s.tied.rest.words ∙ ap slice_index e.words ∙ r.tied.rest.words) i;
+      mem = m'.core.mem;
       taken = (sym s.tied.rest.taken ∙ e.taken ∙ r.tied.rest.taken) i;
     };
     before = (sym s.tied.behind.file ∙ file_same ∙ r.tied.behind.file) i;
@@ -126,5 +131,10 @@ module _ (t u : Pipe LineCache) (e : SameParts t u) (p : Program) (h k : List Bo
     counts = m'.counts;
   }
 
-  pub parts_alike : GoOnLike m m'
-  parts_alike = record { same = states_same; coming = waits_same.coming; behind = waits_same.behind }
+  pub parts_alike : UsersGoOnLike m m'
+  parts_alike = record {
+    user = sym (ap (λ (p : Psw). p.current.user) s.tied.rest.psw) ∙ e.user;
+    quiet = sym s.tied.rest.asked ∙ e.quiet;
+    kept = λ a is. sym (ap (λ (w : Words). w a) s.tied.rest.words) ∙ e.words a is ∙ ap (λ (w : Words). w a) r.tied.rest.words;
+    rest = record { same = states_same; coming = waits_same.coming; behind = waits_same.behind };
+  }

@@ -5,5 +5,5 @@ mod caches;
 mod laws;
 mod machines;
 
-pub use laws::{equal_caches_answer_alike, states_go_on_alike};
+pub use laws::{equal_caches_answer_alike, states_go_on_alike, users_go_on_alike};
 pub use machines::goes_on_like;

@@ -47,8 +47,10 @@ returns-then-is_same_cache c = λ data_is p h k s r.
                                     written = w3.write_alike.ensures.write write;
                                     file = (slice_eq-Decides Decides-eqb _ _ w4.eq.result w4.eq.ensures).0 file;
                                     caches = w5.is_same_cache.ensures cache;
-                                    words = (c.has_data_of.ensures.same data_is).0;
-                                    taken = (c.has_data_of.ensures.same data_is).1;
+                                    words = c.is_same_data.ensures.words data_is;
+                                    taken = c.is_same_data.ensures.taken data_is;
+                                    user = w2.is_same_mode.ensures.user mode;
+                                    quiet = w1.is_same_wait.ensures.quiet wait;
                                   }
                               | else-is_same_window w1 ↦
                                   let bad : false ≡ true = sym w1.if-is_same_window.false ∙ sym w1.value-is ∙ one in absurd (cc)
