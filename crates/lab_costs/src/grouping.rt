@@ -1,4 +1,7 @@
 //! Parts of a source by which costs are told.
+ghost use Rattle.std.specs.Prelude.{◌≡◌, ◌<◌, ◌≤◌, ◌-◌, ◌^◌, IfOk, All, length, max, min};
+ghost use Rattle.lab_costs.specs.Rows.{AreBelow, AreLinesOf, AreLineGroups, IsGrouping};
+
 use crate::subject::Subject;
 use indexmap::IndexMap;
 use lab_positions::{Position, Positions, Span, line_spans, positions_of};
@@ -82,13 +85,20 @@ const UNKNOWN: Group = Group {
 };
 
 /// The number of the last part; 0 where there is none.
-fn last_number(groups: &[Group]) -> u32 {
+fn last_number(groups: &[Group]) -> u32
+    ensures { result ≡ min (length groups.now - 1) (2 ^ 32 - 1) }
+{
     u32::try_from(groups.len().saturating_sub(1)).unwrap_or(u32::MAX)
 }
 
 impl Grouping {
     /// Puts the statements up to a number into the last part.
-    fn fill(&mut self, statements: usize) -> Result<(), AllocError> {
+    fn fill(&mut self, statements: usize) -> Result<(), AllocError>
+        ensures size { IfOk result (λ done. length self.new.keys.items ≡ max (length self.old.keys.items) statements) }
+        ensures groups { IfOk result (λ done. self.new.groups.items ≡ self.old.groups.items) }
+        ensures below { IfOk result (λ done. 0 < length self.old.groups.items → AreBelow self.old.keys.items (length self.old.groups.items)
+            → AreBelow self.new.keys.items (length self.old.groups.items)) }
+    {
         let number = last_number(self.groups.as_slice());
         for _ in self.keys.len()..statements {
             self.keys.push(number)?;
@@ -98,7 +108,12 @@ impl Grouping {
 }
 
 /// Each line of the source by itself.
-fn by_lines(alloc: Global, subject: &Subject) -> Result<Grouping, AllocError> {
+fn by_lines(alloc: Global, subject: &Subject) -> Result<Grouping, AllocError>
+    ensures keys { IfOk result (λ grouping. grouping.keys.items ≡ subject.now.source.now.lines) }
+    ensures groups { IfOk result (λ grouping. AreLineGroups subject.now.text.now grouping.groups.items) }
+    ensures below { IfOk result (λ grouping. AreLinesOf subject.now.text.now subject.now.source.now.lines
+        → AreBelow grouping.keys.items (length grouping.groups.items)) }
+{
     let spans = line_spans(alloc, subject.text)?;
     let mut groups = vec![in alloc; NO_LINE; 1]?;
     let mut line = 0u32;
@@ -172,11 +187,10 @@ fn labelled(
 }
 
 /// Each statement by the last of these starts that does not stand behind it, with the first of its labels.
-fn by_starts(
-    alloc: Global,
-    lines: &[u32],
-    starts: &[(u32, usize)],
-) -> Result<Grouping, AllocError> {
+fn by_starts(alloc: Global, lines: &[u32], starts: &[(u32, usize)]) -> Result<Grouping, AllocError>
+    ensures size { IfOk result (λ grouping. length grouping.keys.items ≡ length lines.now) }
+    ensures below { IfOk result (λ grouping. AreBelow grouping.keys.items (length grouping.groups.items)) }
+{
     let mut grouping = Grouping {
         groups: vec![in alloc; BEFORE; 1]?,
         keys: Vec::new(alloc),
@@ -198,7 +212,10 @@ fn by_starts(
 }
 
 /// Each statement by the last label before it, of those that stand before the chosen statements.
-fn by_labels(alloc: Global, source: &Source, chosen: &[bool]) -> Result<Grouping, AllocError> {
+fn by_labels(alloc: Global, source: &Source, chosen: &[bool]) -> Result<Grouping, AllocError>
+    ensures size { IfOk result (λ grouping. length grouping.keys.items ≡ length source.now.lines) }
+    ensures below { IfOk result (λ grouping. AreBelow grouping.keys.items (length grouping.groups.items)) }
+{
     let starts = labelled(alloc, source, chosen)?;
     by_starts(alloc, source.lines(), starts.as_slice())
 }
@@ -208,7 +225,13 @@ fn numbered(
     numbers: &mut IndexMap<(u32, u32), u32>,
     groups: &mut Vec<Group>,
     position: Option<Position>,
-) -> Result<u32, AllocError> {
+) -> Result<u32, AllocError>
+    ensures grows { IfOk result (λ number. length groups.old.items ≤ length groups.new.items) }
+    ensures below { IfOk result (λ number. 0 < length groups.old.items → All (λ e. e.1 < length groups.old.items) numbers.old.entries
+        → number < length groups.new.items) }
+    ensures numbers { IfOk result (λ number. All (λ e. e.1 < length groups.old.items) numbers.old.entries
+        → All (λ e. e.1 < length groups.new.items) numbers.new.entries) }
+{
     let Some(position) = position else {
         return Ok(0);
     };
@@ -231,7 +254,10 @@ fn keys_by(
     lines: &[u32],
     positions: &Positions,
     groups: &mut Vec<Group>,
-) -> Result<Vec<u32>, AllocError> {
+) -> Result<Vec<u32>, AllocError>
+    ensures size { IfOk result (λ keys. length keys.items ≡ length lines.now) }
+    ensures below { IfOk result (λ keys. 0 < length groups.old.items → AreBelow keys.items (length groups.new.items)) }
+{
     let mut numbers = IndexMap::new(alloc);
     let mut keys = Vec::new(alloc);
     for line in lines {
@@ -242,7 +268,10 @@ fn keys_by(
 }
 
 /// Each statement by the line of C that it was made from.
-fn by_positions(alloc: Global, subject: &Subject) -> Result<Grouping, AllocError> {
+fn by_positions(alloc: Global, subject: &Subject) -> Result<Grouping, AllocError>
+    ensures size { IfOk result (λ grouping. length grouping.keys.items ≡ length subject.now.source.now.lines) }
+    ensures below { IfOk result (λ grouping. AreBelow grouping.keys.items (length grouping.groups.items)) }
+{
     let positions = positions_of(alloc, subject.text)?;
     let mut groups = vec![in alloc; UNKNOWN; 1]?;
     let keys = keys_by(alloc, subject.source.lines(), &positions, &mut groups)?;
@@ -250,11 +279,9 @@ fn by_positions(alloc: Global, subject: &Subject) -> Result<Grouping, AllocError
 }
 
 /// The parts of a source.
-pub(crate) fn grouping_by(
-    alloc: Global,
-    subject: &Subject,
-    by: By,
-) -> Result<Grouping, AllocError> {
+pub(crate) fn grouping_by(alloc: Global, subject: &Subject, by: By) -> Result<Grouping, AllocError>
+    ensures { IfOk result (λ grouping. IsGrouping by subject.now.text.now subject.now.source.now.lines grouping.groups.items grouping.keys.items) }
+{
     let source = subject.source;
     match by {
         By::Line => by_lines(alloc, subject),

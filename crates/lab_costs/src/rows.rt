@@ -1,5 +1,9 @@
 //! Rows of costs.
-use crate::grouping::{By, Grouping, PartName, grouping_by};
+ghost use Rattle.std.specs.Prelude.{◌≡◌, ◌<◌, ℕ, false, IfOk, length, slice_index_or};
+ghost use Rattle.lab_costs.specs.Rows.{has_statements, rows_of, AreRowsBy, AreLineRows};
+ghost use Rattle.lab_costs.specs.declared.grouping.By.TheVariants.{Line};
+
+use crate::grouping::{By, Group, Grouping, PartName, grouping_by};
 use crate::subject::Subject;
 use lab_profile::{Column, LineCost, costs_by_line};
 use std::alloc::{AllocError, Global};
@@ -13,10 +17,13 @@ pub(crate) struct Row {
     pub cost: LineCost,
 }
 
-// Which parts have statements.
-fn with_statements(alloc: Global, grouping: &Grouping) -> Result<Vec<bool>, AllocError> {
-    let mut has = vec![in alloc; false; grouping.groups.len()]?;
-    for key in grouping.keys.iter() {
+// Which of so many parts have statements.
+fn with_statements(alloc: Global, parts: usize, keys: &[u32]) -> Result<Vec<bool>, AllocError>
+    ensures size { IfOk result (λ has. length has.items ≡ parts) }
+    ensures each { IfOk result (λ has. (k : ℕ) → k < parts → slice_index_or has.items k false ≡ has_statements keys.now k) }
+{
+    let mut has = vec![in alloc; false; parts]?;
+    for key in keys {
         let place = *key as usize;
         if place < has.len() {
             has[place] = true;
@@ -25,27 +32,43 @@ fn with_statements(alloc: Global, grouping: &Grouping) -> Result<Vec<bool>, Allo
     Ok(has)
 }
 
-// What each part costs, where these are the costs of the statements.
-fn sums_by(alloc: Global, keys: &[u32], costs: &[LineCost]) -> Result<Vec<LineCost>, AllocError> {
-    let count = keys.len().min(costs.len());
-    costs_by_line(alloc, &keys[..count], &costs[..count])
-}
-
-// The parts that have statements, with what they cost, in the order of the source.
-fn rows_of(alloc: Global, grouping: &Grouping, costs: &[LineCost]) -> Result<Vec<Row>, AllocError> {
-    let has = with_statements(alloc, grouping)?;
-    let sums = sums_by(alloc, grouping.keys.as_slice(), costs)?;
+// The parts that have statements, with what they cost, by the keys and the costs of the statements.
+fn rows_from(
+    alloc: Global,
+    groups: &[Group],
+    keys: &[u32],
+    costs: &[LineCost],
+) -> Result<Vec<Row>, AllocError>
+    requires { length keys.now ≡ length costs.now }
+    ensures { IfOk result (λ rows. rows.items ≡ rows_of groups.now keys.now costs.now) }
+{
+    let has = with_statements(alloc, groups.len(), keys)?;
+    let sums = costs_by_line(alloc, keys, costs)?;
     let mut rows = Vec::new(alloc);
-    for ((group, cost), has) in grouping.groups.iter().zip(sums.iter()).zip(has.iter()) {
-        if *has {
+    for number in 0..groups.len() {
+        if has[number] {
             rows.push(Row {
-                name: group.name,
-                line: group.line,
-                cost: *cost,
+                name: groups[number].name,
+                line: groups[number].line,
+                cost: sums[number],
             })?;
         }
     }
     Ok(rows)
+}
+
+// The parts that have statements, with what they cost, in the order of the source. Keys and costs are of the same statements.
+fn rows_of(alloc: Global, grouping: &Grouping, costs: &[LineCost]) -> Result<Vec<Row>, AllocError>
+    ensures { IfOk result (λ rows. length grouping.now.keys.items ≡ length costs.now
+        → rows.items ≡ rows_of grouping.now.groups.items grouping.now.keys.items costs.now) }
+{
+    let count = grouping.keys.len().min(costs.len());
+    rows_from(
+        alloc,
+        grouping.groups.as_slice(),
+        &grouping.keys[..count],
+        &costs[..count],
+    )
 }
 
 /// The parts of a source that have statements, with what they cost, in the order of a column.
@@ -55,7 +78,12 @@ pub(crate) fn rows_by(
     costs: &[LineCost],
     by: By,
     column: Column,
-) -> Result<Vec<Row>, AllocError> {
+) -> Result<Vec<Row>, AllocError>
+    ensures rows { IfOk result (λ rows. length costs.now ≡ length subject.now.source.now.lines
+        → AreRowsBy by column subject.now.text.now subject.now.source.now.lines costs.now rows.items) }
+    ensures by_line { IfOk result (λ rows. length costs.now ≡ length subject.now.source.now.lines → by ≡ Line
+        → AreLineRows column subject.now.text.now subject.now.source.now.lines costs.now rows.items) }
+{
     let grouping = grouping_by(alloc, subject, by)?;
     let mut rows = rows_of(alloc, &grouping, costs)?;
     rows.sort_by_key(|row| u64::MAX - column.number(&row.cost))?;

@@ -1,6 +1,6 @@
 -- Lines of C that lines of a source were made from, and lines of texts.
-use Rattle.std.specs.Prelude.{ℕ, zero, suc, ◌-◌, ◌&&◌, ◌==◌, cond, nat_eq, List, [], ◌∷◌, length, take, Option, Some, None, slice_get}
-use Rattle.std.specs.List.{ends_with}
+use Rattle.std.specs.Prelude.{ℕ, zero, suc, ◌-◌, ◌&&◌, ◌==◌, cond, eqb, nat_eq, List, [], ◌∷◌, length, take, Option, Some, None, slice_get}
+use Rattle.std.specs.List.{ends_with, slice_split}
 use Rattle.lab_positions.specs.declared.positions.Position.{Position}
 
 -- a text without the end of its last line
@@ -20,3 +20,7 @@ position_of lines (suc n) = known (slice_get lines n)
 abbrev pub name_in : List ℕ → Option (List ℕ)
 name_in (mark ∷ blank ∷ name) = cond (mark == 59 && blank == 32) (Some name) None
 name_in _ = None
+
+-- the lines of a text
+abbrev pub lines_in : List ℕ → List (List ℕ)
+lines_in text = slice_split (λ byte. eqb byte 10) (lines_of text)

@@ -1,5 +1,5 @@
 //! Parts of a text, told by where they begin and end.
-ghost use Rattle.std.specs.Prelude.{◌≡◌, ◌&&◌, [], length, nat_le, slice_range, if◌then◌else◌};
+ghost use Rattle.std.specs.Prelude.{◌≡◌, ◌&&◌, [], IfOk, length, nat_le, slice_range, if◌then◌else◌};
 ghost use Rattle.std.specs.Str.Lines.{strip_carriage_return};
 ghost use Rattle.lab_positions.specs.Positions;
 
@@ -39,7 +39,9 @@ pub fn without_return(line: &[u8]) -> &[u8]
 }
 
 /// Where each line of a text stands, without a CR at its end.
-pub fn line_spans(alloc: Global, text: &[u8]) -> Result<Vec<Span>, AllocError> {
+pub fn line_spans(alloc: Global, text: &[u8]) -> Result<Vec<Span>, AllocError>
+    ensures { IfOk result (λ spans. length spans.items ≡ length (Positions.lines_in text.now)) }
+{
     let mut spans = Vec::new(alloc);
     let mut start = 0usize;
     for line in lines_of(text).split(|byte| *byte == b'\n') {
